@@ -1,0 +1,21 @@
+-- Laws of tests that the library lacks.
+use mathlib.Core.Path.{_≡_, refl}
+use mathlib.Core.Bool.{Bool, true, false, _&&_, _||_}
+
+-- neither of two tests holds where their disjunction does not
+pub or-false-left : (a b : Bool) → (a || b) ≡ false → a ≡ false
+or-false-left true b e = e
+or-false-left false b e = refl
+
+pub or-false-right : (a b : Bool) → (a || b) ≡ false → b ≡ false
+or-false-right true b e = cc
+or-false-right false b e = e
+
+-- the first of two tests holds where their conjunction does
+pub and-true-left : (a b : Bool) → (a && b) ≡ true → a ≡ true
+and-true-left true b e = refl
+and-true-left false b e = e
+
+-- a test that holds leaves the tests after it
+pub and-step : {a b x : Bool} → a ≡ true → x ≡ b → x ≡ (a && b)
+and-step p q = rw (p, q)

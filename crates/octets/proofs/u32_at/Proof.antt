@@ -1,0 +1,28 @@
+-- `octets::u32_at` meets its contract, by the laws of a field over its width. Assumes nothing.
+use mathlib.Core.Path.{sym}
+use native.Mathlib.Omega.{arith}
+use Rattle.octets.specs.Numbers.{number-within, number-beyond}
+use borrow.Author.Needs.{needs}
+use Rattle.octets.proofs.u32_at.Statement.{statement}
+use Rattle.octets.proofs.u32_at.Tie as tie
+
+returns : tie.Need-returns
+returns c = let a = c .before .before .args in sym (number-beyond (a .s .now) (a .at) 4 (omega arith))
+
+sub-if2 : tie.Need-sub-if2
+sub-if2 c = search needs
+
+returns-2 : tie.Need-returns-2
+returns-2 c = let a = c .before .before .before .args in sym (number-beyond (a .s .now) (a .at) 4 (omega arith))
+
+four-requires : tie.Need-four-requires
+four-requires c κs = search needs
+
+cast-result : tie.Need-cast-result
+cast-result c = search needs
+
+returns-3 : tie.Need-returns-3
+returns-3 c = let a = c .before .before .before .before .args in omega (arith, number-within (a .s .now) (a .at) 4 (omega arith))
+
+pub u32-at-spec : {M : Type 1} → statement M
+u32-at-spec = tie.close (tie.spec returns sub-if2 returns-2 four-requires cast-result returns-3)

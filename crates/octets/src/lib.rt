@@ -1,0 +1,60 @@
+// Big-endian numbers in a slice of bytes, total for every place. Depends on nothing.
+// Each sum is balanced, so that it is compiled to one load and a byte swap.
+ghost use mathlib.Core.Path.{_≡_};
+ghost use Prim.Native.Nat.{_+_, _≤_, _<_};
+ghost use lib.ListN.{length};
+ghost use Rattle.octets.specs.Numbers.{bigEndian, numberAt};
+
+// A byte as a wider number, with the bound that keeps a sum of such numbers from wrapping.
+fn byte(x: u8) -> u64
+    ensures { λ r. ⌜ (r ≡ x) × (r < 256) ⌝ }
+{
+    x as u64
+}
+
+// The number in the four bytes at `at`, which lie within s.
+fn four(s: &[u8], at: usize) -> u64
+    requires { ⌜ at + 4 ≤ length (now s) ⌝ }
+    ensures { λ r. ⌜ (r ≡ bigEndian (now (s .entry)) at 4) × (r < 4294967296) ⌝ }
+{
+    (byte(s[at]) * 16777216 + byte(s[at + 1]) * 65536) + (byte(s[at + 2]) * 256 + byte(s[at + 3]))
+}
+
+// The number in the two bytes at `at`, 0 where s ends before they do.
+pub fn u16_at(s: &[u8], at: usize) -> usize
+    ensures { λ r. ⌜ (r ≡ numberAt (now (s .entry)) at 2) × (r < 65536) ⌝ }
+{
+    if s.len() < 2 {
+        return 0;
+    }
+    if s.len() - 2 < at {
+        return 0;
+    }
+    (byte(s[at]) * 256 + byte(s[at + 1])) as usize
+}
+
+// The same in four bytes.
+pub fn u32_at(s: &[u8], at: usize) -> u32
+    ensures { λ r. ⌜ r ≡ numberAt (now (s .entry)) at 4 ⌝ }
+{
+    if s.len() < 4 {
+        return 0;
+    }
+    if s.len() - 4 < at {
+        return 0;
+    }
+    four(s, at) as u32
+}
+
+// The same in eight bytes.
+pub fn u64_at(s: &[u8], at: usize) -> u64
+    ensures { λ r. ⌜ r ≡ numberAt (now (s .entry)) at 8 ⌝ }
+{
+    if s.len() < 8 {
+        return 0;
+    }
+    if s.len() - 8 < at {
+        return 0;
+    }
+    four(s, at) * 4294967296 + four(s, at + 4)
+}

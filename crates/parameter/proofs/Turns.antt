@@ -1,0 +1,146 @@
+-- The walk over the parameters, turn by turn. Assumes nothing.
+use mathlib.Core.Path.{_≡_, refl, ap, sym, _∙_}
+use mathlib.Core.Bool.{Bool, true, false, not, cond, _&&_, _||_, or-true}
+use mathlib.Core.List.{List, [], _∷_}
+use Prim.Native.Nat.{ℕ, _+_, _-_, _<_, _≤_}
+use native.Mathlib.Omega.{arith}
+use lib.Dec.{ltb, leb, eqb}
+use lib.ListN.{length}
+use borrow.Author.Tests.{lt-ltb, le-ltb, ltb-false, le-leb, lt-leb, leb-true, leb-false}
+use Rattle.boolean.specs.Laws.{or-false-left, or-false-right}
+use Rattle.refusal.specs.declared.Refusal.{Refusal}
+use Rattle.refusal.specs.Table.{refusal}
+use Rattle.octets.specs.Records.{some, records-more, records-none, records}
+use Rattle.parameter.specs.declared.Parameter.{Parameter}
+use Rattle.parameter.specs.declared.Survey.{Survey}
+use Rattle.parameter.specs.declared.Walked.{Walked}
+use Rattle.parameter.specs.declared.Walked.the-variants.{Rejected, Complete}
+use Rattle.parameter.specs.declared.Step.{Step}
+use Rattle.parameter.specs.declared.Step.the-variants.{Found, End, Refused}
+use Rattle.parameter.specs.Header.{headerSize, headerHolds}
+use Rattle.parameter.specs.Types.{refusedType}
+use Rattle.parameter.specs.Parameters.{takes, parameterAt, parameters, pastEnd, wrong, falls, illFormed, stepAt}
+use Rattle.parameter.specs.Survey.{occurs, noted, surveyed, unseen, walkOf}
+
+-- ---- one step, by the tests of the code
+module _ (s : List ℕ) (at : ℕ) where
+  pub step-end : length s ≤ at → End ≡ stepAt s at
+  step-end h = rw (le-leb _ _ h)
+
+  pub step-past : at < length s → length s < parameterAt s at .next → Refused (refusal 3) ≡ stepAt s at
+  step-past h e = rw (lt-leb _ _ h, lt-ltb _ _ e)
+
+  pub step-wrong : at < length s → wrong (parameterAt s at) ≡ true → Refused (refusal 3) ≡ stepAt s at
+  step-wrong h e = simp (lt-leb _ _ h, e, or-true)
+
+  pub step-found : at < length s → parameterAt s at .next ≤ length s → wrong (parameterAt s at) ≡ false → Found (parameterAt s at) ≡ stepAt s at
+  step-found h e w = rw (lt-leb _ _ h, le-ltb _ _ e, w)
+
+-- ---- what an answer of a step says of the tests e, for the end, and b, for a broken parameter
+is-end : (e b : Bool) (p : Parameter) → End ≡ cond e End (cond b (Refused (refusal 3)) (Found p)) → e ≡ true
+is-end true b p h = refl
+is-end false true p h = cc
+is-end false false p h = cc
+
+is-refused : (e b : Bool) (p : Parameter) {r : Refusal} → Refused r ≡ cond e End (cond b (Refused (refusal 3)) (Found p))
+    → (e ≡ false) × ((b ≡ true) × (r ≡ refusal 3))
+is-refused true b p h = (cc, (cc, cc))
+is-refused false true p h = (refl, (refl, cc))
+is-refused false false p h = (cc, (cc, cc))
+
+is-found : (e b : Bool) (p : Parameter) {q : Parameter} → Found q ≡ cond e End (cond b (Refused (refusal 3)) (Found p))
+    → (e ≡ false) × ((b ≡ false) × (q ≡ p))
+is-found true b p h = (cc, (cc, cc))
+is-found false true p h = (cc, (cc, cc))
+is-found false false p h = (refl, (refl, cc))
+
+-- a parameter past the end, or with a wrong L
+abbrev broken : List ℕ → ℕ → Bool
+broken s at = pastEnd s (parameterAt s at) || wrong (parameterAt s at)
+
+-- ---- the walk from any place on
+-- the answer of the walk over the parameters ps, after one of type `last` and what was seen before them
+unfoldable pub judged : List ℕ → ℕ → Survey → List Parameter → Walked
+judged s last seen ps = cond (illFormed s last ps) (Rejected (refusal 3)) (Complete (surveyed seen ps))
+
+-- a type that refusal 4 refuses is remembered
+unknown-on : (n : ℕ) (r x : Bool) → cond x 1 (cond r 1 n) ≡ cond (r || x) 1 n
+unknown-on n true true = refl
+unknown-on n true false = refl
+unknown-on n false x = refl
+
+module _ (s : List ℕ) (last : ℕ) (seen : Survey) (p : Parameter) (ps : List Parameter) where
+  judged-broken : (pastEnd s p || wrong p) ≡ true → judged s last seen (p ∷ ps) ≡ Rejected (refusal 3)
+  unfolding judged some falls
+  judged-broken h = go (pastEnd s p) (wrong p) h
+    where
+      go : (a b : Bool) → (a || b) ≡ true
+          → cond ((a || some (pastEnd s) ps) || ((ltb (p .kind) last || falls (p .kind) ps) || (b || some wrong ps))) (Rejected (refusal 3)) (Complete (surveyed seen (p ∷ ps))) ≡ Rejected (refusal 3)
+      go true b e = refl
+      go false true e = simp or-true
+      go false false e = cc
+
+  judged-falls : ltb (p .kind) last ≡ true → judged s last seen (p ∷ ps) ≡ Rejected (refusal 3)
+  unfolding judged falls
+  judged-falls h = simp (h, or-true)
+
+  judged-on : pastEnd s p ≡ false → wrong p ≡ false → ltb (p .kind) last ≡ false
+      → judged s last seen (p ∷ ps) ≡ judged s (p .kind) (noted seen (p .kind) (p .body) (p .len)) ps
+  unfolding judged some falls occurs
+  judged-on a b f = simp (a, b, f, unknown-on)
+
+-- what holds at the loop's head: the parameters from `at` on, after what was seen, give the walk's answer
+pub record Walking (s : List ℕ) (seen : Survey) (last at : ℕ) : Type 0 where
+  pub steps : ℕ
+  pub enough : length s - at ≤ steps
+  pub same : judged s last seen (records (parameterAt s) (λ (p : Parameter). p .next) (length s) steps at) ≡ walkOf s
+
+pub headless : (s : List ℕ) → headerHolds s ≡ false → Rejected (refusal 3) ≡ walkOf s
+unfolding walkOf
+headless s h = rw h
+
+pub starts : (s : List ℕ) → headerHolds s ≡ true → Walking s unseen 0 headerSize
+unfolding walkOf judged
+starts s h = record { steps = length s; enough = omega arith; same = rw h }
+
+-- a turn of the loop, by the step's answer r
+module _ (s : List ℕ) (seen : Survey) (last at : ℕ) (w : Walking s seen last at) {r : Step} (g : r ≡ stepAt s at) where
+  front : at < length s → judged s last seen (parameterAt s at ∷ records (parameterAt s) (λ (p : Parameter). p .next) (length s) (w .steps - 1) (parameterAt s at .next)) ≡ walkOf s
+  front h = ap (judged s last seen) (sym (records-more (parameterAt s) (λ (p : Parameter). p .next) (length s) (w .steps) at h (w .enough))) ∙ w .same
+
+  ended : judged s last seen [] ≡ Complete seen
+  unfolding judged some falls occurs
+  ended = refl
+
+  pub ends : r ≡ End → Complete seen ≡ walkOf s
+  ends e =
+      let h : length s ≤ at = leb-true _ _ (is-end (leb (length s) at) (broken s at) (parameterAt s at) (sym e ∙ g)) in
+      sym ended ∙ ap (judged s last seen) (sym (records-none (parameterAt s) (λ (p : Parameter). p .next) (length s) (w .steps) at h)) ∙ w .same
+
+  pub refuses : {no : Refusal} → r ≡ Refused no → Rejected no ≡ walkOf s
+  refuses e =
+      let q = is-refused (leb (length s) at) (broken s at) (parameterAt s at) (sym e ∙ g) in
+      ap Rejected (q .1 .1) ∙ (sym (judged-broken s last seen (parameterAt s at) _ (q .1 .0)) ∙ front (leb-false _ _ (q .0)))
+
+  found : {p : Parameter} → r ≡ Found p → (leb (length s) at ≡ false) × ((broken s at ≡ false) × (p ≡ parameterAt s at))
+  found e = is-found (leb (length s) at) (broken s at) (parameterAt s at) (sym e ∙ g)
+
+  pub nearer : {p : Parameter} → r ≡ Found p → length s - p .next < length s - at
+  nearer e = let h : at < length s = leb-false _ _ (found e .0) in rw (found e .1 .1) (omega arith)
+
+  pub refuses-fall : {p : Parameter} → r ≡ Found p → p .kind < last → Rejected (refusal 3) ≡ walkOf s
+  refuses-fall e f =
+      sym (judged-falls s last seen (parameterAt s at) _ (lt-ltb _ _ (rw (found e .1 .1) at f))) ∙ front (leb-false _ _ (found e .0))
+
+  goes-at : at < length s → broken s at ≡ false → last ≤ parameterAt s at .kind
+      → Walking s (noted seen (parameterAt s at .kind) (parameterAt s at .body) (parameterAt s at .len)) (parameterAt s at .kind) (parameterAt s at .next)
+  goes-at h b f = record {
+    steps = w .steps - 1;
+    enough = omega (arith, w .enough);
+    same =
+        sym (judged-on s last seen (parameterAt s at) _ (or-false-left (pastEnd s (parameterAt s at)) (wrong (parameterAt s at)) b) (or-false-right (pastEnd s (parameterAt s at)) (wrong (parameterAt s at)) b) (le-ltb _ _ f))
+        ∙ front h;
+  }
+
+  pub goes : {p : Parameter} → r ≡ Found p → last ≤ p .kind → Walking s (noted seen (p .kind) (p .body) (p .len)) (p .kind) (p .next)
+  goes e f = rw (found e .1 .1) (goes-at (leb-false _ _ (found e .0)) (found e .1 .0) (rw (found e .1 .1) at f))

@@ -1,0 +1,44 @@
+-- `parameter::note` meets its contract, field by field. Assumes nothing.
+use borrow.Author.Needs.{needs}
+use Rattle.parameter.proofs.note.Statement.{statement}
+use Rattle.parameter.proofs.note.Tie as tie
+
+note-type-requires : tie.Need-note-type-requires
+note-type-requires c κs = search needs
+
+count-requires : tie.Need-count-requires
+count-requires c κs = search needs
+
+count-requires-2 : tie.Need-count-requires-2
+count-requires-2 c κs = search needs
+
+count-requires-3 : tie.Need-count-requires-3
+count-requires-3 c κs = search needs
+
+count-requires-4 : tie.Need-count-requires-4
+count-requires-4 c κs = search needs
+
+count-requires-5 : tie.Need-count-requires-5
+count-requires-5 c κs = search needs
+
+returns : tie.Need-returns
+returns c = λ i. record {
+  unknown = c .before .before .before .before .before .note-type .ensures i;
+  esp = c .before .before .before .before .count .ensures i;
+  set = c .before .before .before .count2 .ensures i;
+  seq = c .before .before .count3 .ensures i;
+  ack = c .before .count4 .ensures i;
+  echo = c .count5 .ensures i;
+}
+
+pub note-spec : {M : Type 1} → statement M
+note-spec =
+    tie.close
+    (tie.spec
+    note-type-requires
+    count-requires
+    count-requires-2
+    count-requires-3
+    count-requires-4
+    count-requires-5
+    returns)

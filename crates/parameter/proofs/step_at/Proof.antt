@@ -1,0 +1,77 @@
+-- `parameter::step_at` meets its contract: each answer is the law of the tests that led to it. Assumes nothing.
+use mathlib.Core.Path.{sym, _∙_}
+use native.Mathlib.Omega.{arith}
+use Rattle.parameter.proofs.Turns.{step-end, step-past, step-wrong, step-found}
+use borrow.Author.Needs.{needs}
+use Rattle.parameter.proofs.step_at.Statement.{statement}
+use Rattle.parameter.proofs.step_at.Tie as tie
+
+returns : tie.Need-returns
+returns c = let a = c .before .before .args in step-end (a .packet .now) (a .at) (omega arith)
+
+sub-left : tie.Need-sub-left
+sub-left c = search needs
+
+returns-2 : tie.Need-returns-2
+returns-2 c = let a = c .before .before .before .args in step-past (a .packet .now) (a .at) (omega arith) (omega arith)
+
+u16-at-requires : tie.Need-u16-at-requires
+u16-at-requires c κs = search needs
+
+add-u16-at : tie.Need-add-u16-at
+add-u16-at c = search needs
+
+u16-at-requires-2 : tie.Need-u16-at-requires-2
+u16-at-requires-2 c κs = search needs
+
+add-size : tie.Need-add-size
+add-size c = search needs
+
+add-size-2 : tie.Need-add-size-2
+add-size-2 c = search needs
+
+sub-size : tie.Need-sub-size
+sub-size c = search needs
+
+returns-3 : tie.Need-returns-3
+returns-3 c = let a = c .before .before .before .before .before .before .args in step-past (a .packet .now) (a .at) (omega arith) (omega (arith, c .before .u16-at2 .ensures .0))
+
+wrong-length-requires : tie.Need-wrong-length-requires
+wrong-length-requires c κs = search needs
+
+returns-4 : tie.Need-returns-4
+returns-4 c = let a = c .before .before .before .before .before .before .before .before .args in
+    step-wrong (a .packet .now) (a .at) (omega arith)
+    (sym (rw (c .before .before .before .before .u16-at .ensures .0, c .before .before .before .u16-at2 .ensures .0) at (c .before .wrong-length .ensures)) ∙ c .if4 .taken)
+
+add-t11 : tie.Need-add-t11
+add-t11 c = search needs
+
+add-t7 : tie.Need-add-t7
+add-t7 c = search needs
+
+returns-5 : tie.Need-returns-5
+returns-5 c = let a = c .before .before .before .before .before .before .before .before .args in
+    rw (c .before .before .before .before .u16-at .ensures .0, c .before .before .before .u16-at2 .ensures .0)
+    (step-found (a .packet .now) (a .at) (omega arith) (omega (arith, c .before .before .before .u16-at2 .ensures .0))
+    (sym (rw (c .before .before .before .before .u16-at .ensures .0, c .before .before .before .u16-at2 .ensures .0) at (c .before .wrong-length .ensures)) ∙ c .if4 .left))
+
+pub step-at-spec : {M : Type 1} → statement M
+step-at-spec =
+    tie.close
+    (tie.spec
+    returns
+    sub-left
+    returns-2
+    u16-at-requires
+    add-u16-at
+    u16-at-requires-2
+    add-size
+    add-size-2
+    sub-size
+    returns-3
+    wrong-length-requires
+    returns-4
+    add-t11
+    add-t7
+    returns-5)

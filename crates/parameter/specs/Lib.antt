@@ -1,0 +1,4 @@
+pub mod Header
+pub mod Types
+pub mod Parameters
+pub mod Survey

@@ -1,0 +1,81 @@
+-- What one walk over a packet's parameters finds: refusal 3, or how often each type that the later rules read occurs, and where.
+use Prim.Native.Nat.{ℕ}
+use mathlib.Core.Bool.{Bool, not, cond, _||_}
+use mathlib.Core.List.{List, [], _∷_}
+use lib.Dec.{eqb}
+use Rattle.refusal.specs.Table.{refusal}
+use Rattle.octets.specs.Records.{some}
+use Rattle.parameter.specs.Header.{headerHolds}
+use Rattle.parameter.specs.Types.{espInfo, locatorSet, seq, ack, echoResponseSigned, refusedType}
+use Rattle.parameter.specs.Parameters.{parameters, illFormed}
+use Rattle.parameter.specs.declared.Parameter.{Parameter}
+use Rattle.parameter.specs.declared.Occurrence.{Occurrence}
+use Rattle.parameter.specs.declared.Survey.{Survey}
+use Rattle.parameter.specs.declared.Walked.{Walked}
+use Rattle.parameter.specs.declared.Walked.the-variants.{Rejected, Complete}
+
+-- a type that does not occur
+abbrev pub never : Occurrence
+never = record { times = 0; body = 0; len = 0 }
+
+-- one more parameter of the type: the first is kept with its place and length, and more than one count as 2
+abbrev pub again : Occurrence → (body len : ℕ) → Occurrence
+again seen body len =
+    cond (eqb (seen .times) 0) (record { times = 1; body = body; len = len })
+    (record { times = 2; body = seen .body; len = seen .len })
+
+-- one more parameter, of any type
+abbrev pub counted : (type : ℕ) → Occurrence → (kind body len : ℕ) → Occurrence
+counted type seen kind body len = cond (eqb kind type) (again seen body len) seen
+
+-- how often a type occurs among the parameters ps, after what was seen before them
+unfoldable pub occurs : (type : ℕ) → Occurrence → List Parameter → Occurrence
+occurs type seen [] = seen
+occurs type seen (p ∷ ps) = occurs type (counted type seen (p .kind) (p .body) (p .len)) ps
+
+-- "odd type not known, or 897"
+abbrev pub refused : Parameter → Bool
+refused p = refusedType (p .kind)
+
+-- what has been seen after one more parameter
+abbrev pub noted : Survey → (kind body len : ℕ) → Survey
+noted seen kind body len = record {
+  unknown = cond (refusedType kind) 1 (seen .unknown);
+  esp = counted espInfo (seen .esp) kind body len;
+  set = counted locatorSet (seen .set) kind body len;
+  seq = counted seq (seen .seq) kind body len;
+  ack = counted ack (seen .ack) kind body len;
+  echo = counted echoResponseSigned (seen .echo) kind body len;
+}
+
+-- what the parameters ps add to what was seen before them
+abbrev pub surveyed : Survey → List Parameter → Survey
+surveyed seen ps = record {
+  unknown = cond (some refused ps) 1 (seen .unknown);
+  esp = occurs espInfo (seen .esp) ps;
+  set = occurs locatorSet (seen .set) ps;
+  seq = occurs seq (seen .seq) ps;
+  ack = occurs ack (seen .ack) ps;
+  echo = occurs echoResponseSigned (seen .echo) ps;
+}
+
+-- nothing seen yet
+abbrev pub unseen : Survey
+unseen = record { unknown = 0; esp = never; set = never; seq = never; ack = never; echo = never }
+
+-- the survey of a packet's parameters
+abbrev pub surveyOf : List ℕ → Survey
+surveyOf s = surveyed unseen (parameters s)
+
+-- refusal 3: "under 40 bytes, header rule broken, parameter past the end, falling type, wrong L for 65, 385, 449".
+-- It judges all parameters
+abbrev pub refusal3 : List ℕ → Bool
+refusal3 s = not (headerHolds s) || illFormed s 0 (parameters s)
+
+-- refusal 4: "odd type not known, or 897"
+abbrev pub refusal4 : List ℕ → Bool
+refusal4 s = some refused (parameters s)
+
+-- what the walk answers
+unfoldable pub walkOf : List ℕ → Walked
+walkOf s = cond (refusal3 s) (Rejected (refusal 3)) (Complete (surveyOf s))
