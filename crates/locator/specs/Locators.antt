@@ -23,8 +23,8 @@ abbrev pub unitsAt : List ℕ → ℕ → ℕ
 unitsAt s at = getD s (at + 2) 0
 
 -- P is the lowest bit of its byte; the "7 reserved bits" above it are not judged
-abbrev pub markAt : List ℕ → ℕ → ℕ
-markAt s at = getD s (at + 3) 0 % 2
+abbrev pub preferredAt : List ℕ → ℕ → Bool
+preferredAt s at = eqb (getD s (at + 3) 0 % 2) 1
 
 abbrev pub lifetimeAt : List ℕ → ℕ → ℕ
 lifetimeAt s at = numberAt s (at + 4) 4
@@ -64,7 +64,7 @@ listedAt s at = record {
   spi = spiAt s at;
   traffic = trafficAt s at;
   kind = kindAt s at;
-  preferred = eqb (markAt s at) 1;
+  preferred = preferredAt s at;
 }
 
 -- one step of the walk over a set

@@ -1,14 +1,14 @@
 -- The locators of a set, and refusal 6. Here s is the bytes of a LOCATOR_SET.
-use Prim.Native.Nat.{ℕ, _+_}
+use Prim.Native.Nat.{ℕ, zero, suc, _+_}
 use mathlib.Core.Bool.{Bool, true, false, cond, _||_}
 use mathlib.Core.List.{List, [], _∷_, _++_, map}
 use lib.Dec.{ltb, eqb}
-use lib.ListN.{length, drop, replicate}
+use lib.ListN.{length, drop, replicate, getD}
 use Rattle.refusal.specs.Table.{refusal}
 use Rattle.octets.specs.Records.{some}
 use Rattle.address.specs.Rules.{sameAddress}
 use Rattle.address.specs.declared.Address.{Address}
-use Rattle.locator.specs.Locators.{places, markAt, listedAddress, illegalAt, listedAt}
+use Rattle.locator.specs.Locators.{places, preferredAt, listedAddress, illegalAt, listedAt}
 use Rattle.locator.specs.declared.ListedLocator.{ListedLocator}
 use Rattle.locator.specs.declared.SetVerdict.{SetVerdict}
 use Rattle.locator.specs.declared.SetVerdict.the-variants.{RefusedSet, Holds}
@@ -23,10 +23,14 @@ unfoldable pub twice : List ℕ → List Address → List ℕ → Bool
 twice s before [] = false
 twice s before (at ∷ ats) = some (sameAddress (listedAddress s at)) before || twice s (listedAddress s at ∷ before) ats
 
+-- a locator with P counts 1
+abbrev pub mark : Bool → ℕ
+mark preferred = cond preferred 1 0
+
 -- how many have P, after `before` others
 unfoldable pub marks : List ℕ → (before : ℕ) → List ℕ → ℕ
 marks s before [] = before
-marks s before (at ∷ ats) = marks s (before + markAt s at) ats
+marks s before (at ∷ ats) = marks s (before + mark (preferredAt s at)) ats
 
 -- refusal 6 by the locators at the places `ats`, after `count` others that have the addresses `before` and `marked` times P: "over 8, not
 -- filled exactly, unknown traffic or locator type, wrong length, lifetime 0, address not legal, an address twice, P twice". A set is not
@@ -54,8 +58,15 @@ listedOf s = map (listedAt s) (places s)
 abbrev pub padded : List ListedLocator → List ListedLocator
 padded ls = ls ++ drop (length ls) blanks
 
--- what is read of a set: refusal 6, or its locators and how many they are
+-- refusal 6 leaves the array blank
+abbrev pub refusedSet : LocatorSet
+refusedSet = record { verdict = RefusedSet (refusal 6); listed = blanks }
+
+-- what is read of a set: refusal 6, or how many locators there are, and they
 unfoldable pub setOf : List ℕ → LocatorSet
-setOf s =
-    cond (refusal6 s) (record { verdict = RefusedSet (refusal 6); listed = blanks })
-    (record { verdict = Holds (length (listedOf s)); listed = padded (listedOf s) })
+setOf s = cond (refusal6 s) refusedSet (record { verdict = Holds (length (places s)); listed = padded (listedOf s) })
+
+-- the first n of the addresses that two arrays hold by their halves, the last one first
+unfoldable pub addresses : ℕ → (highs lows : List ℕ) → List Address
+addresses zero highs lows = []
+addresses (suc n) highs lows = record { high = getD highs n 0; low = getD lows n 0 } ∷ addresses n highs lows

@@ -1,0 +1,168 @@
+-- The pass over a set, turn by turn. Assumes nothing.
+use mathlib.Core.Path.{_≡_, refl, ap, sym, _∙_}
+use mathlib.Core.Bool.{Bool, true, false, cond, _||_, or-true}
+use mathlib.Core.List.{List, [], _∷_, _++_, map}
+use Prim.Native.Nat.{ℕ, zero, suc, _+_, _-_, _<_, _≤_}
+use native.Mathlib.Omega.{arith}
+use native.Mathlib.Numerals.{add-one}
+use lib.Dec.{ltb, eqb}
+use lib.ListN.{length, set, drop, length-set, length-map}
+use lib.Seq.{sets, sets-eq}
+use borrow.Author.Tests.{lt-ltb, le-ltb, ltb-false, eq-eqb, ne-eqb}
+use Rattle.boolean.specs.Laws.{or-false-left}
+use Rattle.octets.specs.Records.{records, some, records-more, records-none}
+use Rattle.address.specs.declared.Address.{Address}
+use Rattle.address.specs.Rules.{sameAddress}
+use Rattle.locator.specs.declared.ListedLocator.{ListedLocator}
+use Rattle.locator.specs.declared.LocatorSet.{LocatorSet}
+use Rattle.locator.specs.declared.SetVerdict.the-variants.{Holds}
+use Rattle.locator.specs.declared.LocatorStep.{LocatorStep}
+use Rattle.locator.specs.declared.LocatorStep.the-variants.{Listed, Illegal}
+use Rattle.locator.specs.Locators.{places, preferredAt, listedAddress, nextLocator, illegalAt, listedAt, locatorStepAt}
+use Rattle.locator.specs.Sets.{setLimit, twice, mark, marks, unfit, refusal6, blanks, listedOf, padded, refusedSet, setOf, addresses}
+use Rattle.locator.proofs.Entries.{lies-within, is-listed, is-illegal, addresses-store}
+
+-- the answer by the locators at the places `ats`, after `count` others that `listed` holds, with the addresses `before` and `marked` times P
+unfoldable pub judged : List ℕ → (count : ℕ) → List Address → (marked : ℕ) → List ListedLocator → List ℕ → LocatorSet
+judged s count before marked listed ats =
+    cond (unfit s count before marked ats) refusedSet
+    (record { verdict = Holds (count + length ats); listed = sets listed count (map (listedAt s) ats) })
+
+module _ (s : List ℕ) (count : ℕ) (before : List Address) (marked : ℕ) (listed : List ListedLocator) (at : ℕ) (ats : List ℕ) where
+  judged-many : 8 ≤ count → judged s count before marked listed (at ∷ ats) ≡ refusedSet
+  unfolding judged unfit
+  judged-many h = rw (lt-ltb setLimit (count + length (at ∷ ats)) (omega arith))
+
+  judged-illegal : illegalAt s at ≡ true → judged s count before marked listed (at ∷ ats) ≡ refusedSet
+  unfolding judged unfit some
+  judged-illegal h = simp (h, or-true)
+
+  judged-twice : some (sameAddress (listedAddress s at)) before ≡ true → judged s count before marked listed (at ∷ ats) ≡ refusedSet
+  unfolding judged unfit twice
+  judged-twice h = simp (h, or-true)
+
+  judged-on : illegalAt s at ≡ false → some (sameAddress (listedAddress s at)) before ≡ false
+      → judged s count before marked listed (at ∷ ats)
+      ≡ judged s (count + 1) (listedAddress s at ∷ before) (marked + mark (preferredAt s at)) (set listed count (listedAt s at)) ats
+  unfolding judged unfit some twice marks
+  judged-on h g =
+      let e : count + suc (length ats) ≡ suc count + length ats = omega arith in
+      simp (h, g, add-one count, e)
+
+  judged-end : count ≤ 8 → judged s count before marked listed [] ≡ cond (ltb 1 marked) refusedSet (record { verdict = Holds (count + 0); listed = listed })
+  unfolding judged unfit some twice marks
+  judged-end h = rw (le-ltb setLimit (count + 0) (omega arith))
+
+at-most-eight : (s : List ℕ) → unfit s 0 [] 0 (places s) ≡ false → length (places s) ≤ setLimit
+unfolding unfit
+at-most-eight s e =
+    let f = ltb-false setLimit (0 + length (places s)) (or-false-left (ltb setLimit (0 + length (places s))) _ e) in
+    omega arith
+
+-- from the start: the stores leave the locators with blanks after them
+stored : (ls : List ListedLocator) → length ls ≤ setLimit → sets blanks 0 ls ≡ padded ls
+stored ls h = let e : 0 + length ls ≡ length ls = omega arith in sets-eq ls blanks 0 (omega arith) ∙ rw e
+
+from-start : (s : List ℕ) → (length s ≡ 0 → ⊥) → judged s 0 [] 0 blanks (places s) ≡ setOf s
+unfolding judged setOf
+from-start s h = rw (ne-eqb _ _ h) (go (unfit s 0 [] 0 (places s)) refl)
+  where
+    go : (b : Bool) → unfit s 0 [] 0 (places s) ≡ b
+        → cond b refusedSet (record { verdict = Holds (0 + length (places s)); listed = sets blanks 0 (listedOf s) })
+        ≡ cond b refusedSet (record { verdict = Holds (length (places s)); listed = padded (listedOf s) })
+    go true e = refl
+    go false e =
+        let few : length (places s) ≤ setLimit = at-most-eight s e in
+        let same : 0 + length (places s) ≡ length (places s) = omega arith in
+        rw (same, stored (listedOf s) (rw (length-map (places s) (listedAt s)) few))
+
+-- what holds at the loop's head: the locators from `at` on, after those that were read, give the set's answer
+pub record Passing (s : List ℕ) (listed : List ListedLocator) (highs lows : List ℕ) (count marked at : ℕ) : Type 0 where
+  pub within : at ≤ length s
+  pub few : count ≤ 8
+  pub few-marks : marked ≤ count
+  pub listed-long : length listed ≡ 8
+  pub highs-long : length highs ≡ 8
+  pub lows-long : length lows ≡ 8
+  pub steps : ℕ
+  pub enough : length s - at ≤ steps
+  pub agrees : judged s count (addresses count highs lows) marked listed (records (λ (at : ℕ). at) (nextLocator s) (length s) steps at) ≡ setOf s
+
+pub set-empty : (s : List ℕ) → length s ≡ 0 → refusedSet ≡ setOf s
+unfolding setOf
+set-empty s h = rw (eq-eqb _ _ h)
+
+pub set-starts : (s highs lows : List ℕ) → length highs ≡ 8 → length lows ≡ 8 → (length s ≡ 0 → ⊥) → Passing s blanks highs lows 0 0 0
+unfolding addresses
+set-starts s highs lows a b h = record {
+  within = omega arith;
+  few = omega arith;
+  few-marks = omega arith;
+  listed-long = refl;
+  highs-long = a;
+  lows-long = b;
+  steps = length s;
+  enough = omega arith;
+  agrees = from-start s h;
+}
+
+pub mark-few : (b : Bool) → mark b ≤ 1
+mark-few true = omega arith
+mark-few false = omega arith
+
+module _ (s : List ℕ) (listed : List ListedLocator) (highs lows : List ℕ) (count marked at : ℕ) (w : Passing s listed highs lows count marked at) where
+  ended : length s ≤ at → cond (ltb 1 marked) refusedSet (record { verdict = Holds count; listed = listed }) ≡ setOf s
+  ended h =
+      let e : count + 0 ≡ count = omega arith in
+      rw e at (sym (judged-end s count (addresses count highs lows) marked listed 0 [] (w .few)))
+      ∙ (ap (judged s count (addresses count highs lows) marked listed) (sym (records-none (λ (at : ℕ). at) (nextLocator s) (length s) (w .steps) at h)) ∙ w .agrees)
+
+  pub set-marked : length s ≤ at → 1 < marked → refusedSet ≡ setOf s
+  set-marked h m = rw (lt-ltb _ _ m) at (ended h)
+
+  pub set-ends : length s ≤ at → marked ≤ 1 → record { verdict = Holds count; listed = listed } ≡ setOf s
+  set-ends h m = rw (le-ltb _ _ m) at (ended h)
+
+  front : at < length s → judged s count (addresses count highs lows) marked listed (at ∷ records (λ (at : ℕ). at) (nextLocator s) (length s) (w .steps - 1) (nextLocator s at)) ≡ setOf s
+  front h = ap (judged s count (addresses count highs lows) marked listed) (sym (records-more (λ (at : ℕ). at) (nextLocator s) (length s) (w .steps) at h (w .enough))) ∙ w .agrees
+
+  module _ (h : at < length s) where
+    pub set-many : count ≡ 8 → refusedSet ≡ setOf s
+    set-many e = sym (judged-many s count (addresses count highs lows) marked listed at _ (omega arith)) ∙ front h
+
+    module _ {r : LocatorStep} (g : r ≡ locatorStepAt s at) where
+      pub set-illegal : r ≡ Illegal → refusedSet ≡ setOf s
+      set-illegal e =
+          sym (judged-illegal s count (addresses count highs lows) marked listed at _ (is-illegal (illegalAt s at) (listedAt s at) (nextLocator s at) (sym e ∙ g)))
+          ∙ front h
+
+      got : {l : ListedLocator} {n : ℕ} → r ≡ Listed l n → (illegalAt s at ≡ false) × ((l ≡ listedAt s at) × (n ≡ nextLocator s at))
+      got {l} {n} e = is-listed (illegalAt s at) (listedAt s at) l (nextLocator s at) n (sym e ∙ g)
+
+      pub set-twice : {l : ListedLocator} {n : ℕ} → r ≡ Listed l n → some (sameAddress (l .address)) (addresses count highs lows) ≡ true → refusedSet ≡ setOf s
+      set-twice e m =
+          sym (judged-twice s count (addresses count highs lows) marked listed at _ (rw (got e .1 .0) at m)) ∙ front h
+
+      pub set-nearer : {l : ListedLocator} {n : ℕ} → r ≡ Listed l n → (n ≤ length s) × (at < n)
+      set-nearer e = rw (got e .1 .1) (lies-within s at (got e .0))
+
+      goes-at : illegalAt s at ≡ false → (count ≡ 8 → ⊥) → some (sameAddress (listedAddress s at)) (addresses count highs lows) ≡ false
+          → Passing s (set listed count (listedAt s at)) (set highs count (listedAddress s at .high)) (set lows count (listedAddress s at .low))
+          (count + 1) (marked + mark (preferredAt s at)) (nextLocator s at)
+      goes-at b full m = record {
+        within = lies-within s at b .0;
+        few = omega (arith, w .few);
+        few-marks = omega (arith, w .few-marks, mark-few (preferredAt s at));
+        listed-long = length-set listed count (listedAt s at) ∙ w .listed-long;
+        highs-long = length-set highs count (listedAddress s at .high) ∙ w .highs-long;
+        lows-long = length-set lows count (listedAddress s at .low) ∙ w .lows-long;
+        steps = w .steps - 1;
+        enough = omega (arith, w .enough, lies-within s at b);
+        agrees =
+            rw (addresses-store count highs lows (listedAddress s at) (omega (arith, w .few, w .highs-long)) (omega (arith, w .few, w .lows-long)))
+            (sym (judged-on s count (addresses count highs lows) marked listed at _ b m) ∙ front h);
+      }
+
+      pub set-goes : {l : ListedLocator} {n : ℕ} → r ≡ Listed l n → (count ≡ 8 → ⊥) → some (sameAddress (l .address)) (addresses count highs lows) ≡ false
+          → Passing s (set listed count l) (set highs count (l .address .high)) (set lows count (l .address .low)) (count + 1) (marked + mark (l .preferred)) n
+      set-goes e full m = rw (got e .1 .0, got e .1 .1) (goes-at (got e .0) full (rw (got e .1 .0) at m))

@@ -1,0 +1,152 @@
+-- `locator::locator_step` meets its contract: each answer is the law of the tests that led to it. Assumes nothing.
+use mathlib.Core.Path.{_≡_, ap, sym, _∙_}
+use Prim.Native.Nat.{ℕ, _+_, _*_, _%_}
+use lib.Dec.{eqb}
+use lib.ListN.{getD}
+use borrow.Author.Tests.{not-true, not-false}
+use Rattle.address.specs.declared.Address.{Address}
+use Rattle.address.specs.Rules.{addressAt, legal}
+use Rattle.locator.specs.Locators.{trafficAt, kindAt, preferredAt, listedAddress}
+use Rattle.locator.specs.declared.LocatorStep.the-variants.{Listed}
+use Rattle.locator.proofs.Entries.{step-short, step-ill, step-illegal, step-listed}
+use borrow.Author.Needs.{needs}
+use Rattle.locator.proofs.locator_step.Statement.{statement}
+use Rattle.locator.proofs.locator_step.Tie as tie
+
+sub-if1 : tie.Need-sub-if1
+sub-if1 c = search needs
+
+returns : tie.Need-returns
+returns c = let a = c .before .before .args in step-short (a .s .now) (a .at) (c .if1 .taken)
+
+ill-form-requires : tie.Need-ill-form-requires
+ill-form-requires c κs = search needs
+
+returns-2 : tie.Need-returns-2
+returns-2 c = let a = c .before .before .before .before .args in step-ill (a .s .now) (a .at) (sym (c .before .ill-form .ensures) ∙ c .if2 .taken)
+
+add-place : tie.Need-add-place
+add-place c = search needs
+
+add-byte : tie.Need-add-byte
+add-byte c = search needs
+
+shared-slice-read-byte : tie.Need-shared-slice-read-byte
+shared-slice-read-byte c = search needs
+
+byte-requires : tie.Need-byte-requires
+byte-requires c κs = search needs
+
+mul-place : tie.Need-mul-place
+mul-place c = search needs
+
+add-place-2 : tie.Need-add-place-2
+add-place-2 c = search needs
+
+address-at-requires : tie.Need-address-at-requires
+address-at-requires c κs = search needs
+
+is-legal-requires : tie.Need-is-legal-requires
+is-legal-requires c κs = search needs
+
+returns-3 : tie.Need-returns-3
+returns-3 c =
+    let a = c .before .before .before .before .before .before .before .before .before .args in
+    let address : c .before .before .address-at .result ≡ listedAddress (a .s .now) (a .at) =
+    c .before .before .address-at .ensures ∙ ap (λ (k : ℕ). addressAt (a .s .now) (a .at + 8 + 4 * k)) (c .before .before .before .byte .ensures .0) in
+    step-illegal (a .s .now) (a .at) (sym (ap legal address) ∙ (sym (c .before .is-legal .ensures) ∙ not-true _ (c .if3 .taken)))
+
+add-u32-at : tie.Need-add-u32-at
+add-u32-at c = search needs
+
+u32-at-requires : tie.Need-u32-at-requires
+u32-at-requires c κs = search needs
+
+spi-at-requires : tie.Need-spi-at-requires
+spi-at-requires c κs = search needs
+
+shared-slice-read-t12 : tie.Need-shared-slice-read-t12
+shared-slice-read-t12 c = search needs
+
+add-t6 : tie.Need-add-t6
+add-t6 c = search needs
+
+shared-slice-read-t19 : tie.Need-shared-slice-read-t19
+shared-slice-read-t19 c = search needs
+
+add-t7 : tie.Need-add-t7
+add-t7 c = search needs
+
+shared-slice-read-t21 : tie.Need-shared-slice-read-t21
+shared-slice-read-t21 c = search needs
+
+add-t10 : tie.Need-add-t10
+add-t10 c = search needs
+
+add-byte-2 : tie.Need-add-byte-2
+add-byte-2 c = search needs
+
+shared-slice-read-byte-2 : tie.Need-shared-slice-read-byte-2
+shared-slice-read-byte-2 c = search needs
+
+byte-requires-2 : tie.Need-byte-requires-2
+byte-requires-2 c κs = search needs
+
+mul-t7 : tie.Need-mul-t7
+mul-t7 c = search needs
+
+add-t24 : tie.Need-add-t24
+add-t24 c = search needs
+
+returns-4 : tie.Need-returns-4
+returns-4 c =
+    let a = c .before .before .before .before .before .before .before .before .before .before .before .before .before .before .before .before .args in
+    let s = a .s .now in
+    let address : c .before .before .before .before .before .before .before .before .before .address-at .result ≡ listedAddress s (a .at) =
+    c .before .before .before .before .before .before .before .before .before .address-at .ensures ∙ ap (λ (k : ℕ). addressAt s (a .at + 8 + 4 * k)) (c .before .before .before .before .before .before .before .before .before .before .byte .ensures .0) in
+    (λ i.
+    Listed
+    (record {
+      address = address i;
+      lifetime = c .before .before .before .before .before .before .u32-at .ensures i;
+      spi = c .before .before .before .before .before .spi-at .ensures i;
+      traffic = trafficAt s (a .at);
+      kind = kindAt s (a .at);
+      preferred = preferredAt s (a .at);
+    })
+    (a .at + 8 + 4 * c .byte2 .ensures .0 i))
+    ∙ step-listed s (a .at) (sym (c .before .before .before .before .before .before .before .before .before .before .before .before .before .ill-form .ensures) ∙ c .before .before .before .before .before .before .before .before .before .before .before .before .if2 .left)
+    (sym (ap legal address) ∙ (sym (c .before .before .before .before .before .before .before .before .is-legal .ensures) ∙ not-false _ (c .before .before .before .before .before .before .before .if3 .left)))
+
+pub locator-step-spec : {M : Type 1} → statement M
+locator-step-spec =
+    tie.close
+    (tie.spec
+    sub-if1
+    returns
+    ill-form-requires
+    returns-2
+    add-place
+    add-byte
+    shared-slice-read-byte
+    byte-requires
+    mul-place
+    add-place-2
+    address-at-requires
+    is-legal-requires
+    returns-3
+    add-u32-at
+    u32-at-requires
+    spi-at-requires
+    shared-slice-read-t12
+    add-t6
+    shared-slice-read-t19
+    add-t7
+    shared-slice-read-t21
+    add-t10
+    add-byte-2
+    shared-slice-read-byte-2
+    byte-requires-2
+    mul-t7
+    add-t24
+    returns-4)

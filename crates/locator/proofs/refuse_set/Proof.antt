@@ -1,0 +1,15 @@
+-- `locator::refuse_set` meets its contract. Assumes nothing.
+use Rattle.refusal.specs.Table.{refusal}
+use Rattle.locator.specs.declared.SetVerdict.the-variants.{RefusedSet}
+use borrow.Author.Needs.{needs}
+use Rattle.locator.proofs.refuse_set.Statement.{statement}
+use Rattle.locator.proofs.refuse_set.Tie as tie
+
+blank-array-requires : tie.Need-blank-array-requires
+blank-array-requires c κs = search needs
+
+returns : tie.Need-returns
+returns c = λ i. record { verdict = RefusedSet (refusal 6); listed = c .blank-array .ensures i }
+
+pub refuse-set-spec : {M : Type 1} → statement M
+refuse-set-spec = tie.close (tie.spec blank-array-requires returns)
