@@ -9,7 +9,7 @@ use lib.Dec.{ltb, eqb}
 use lib.ListN.{length, getD, set}
 use lib.Seq.{getD-set-same, getD-set-other}
 use borrow.Author.Tests.{lt-ltb, ltb-false, eqb-true}
-use Rattle.boolean.specs.Laws.{or-false-left}
+use Rattle.boolean.proofs.Laws.{or-false-left}
 use Rattle.octets.specs.Records.{some}
 use Rattle.address.specs.declared.Address.{Address}
 use Rattle.address.specs.Rules.{sameAddress, legal}

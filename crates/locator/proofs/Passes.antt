@@ -9,8 +9,9 @@ use lib.Dec.{ltb, eqb}
 use lib.ListN.{length, set, drop, length-set, length-map}
 use lib.Seq.{sets, sets-eq}
 use borrow.Author.Tests.{lt-ltb, le-ltb, ltb-false, eq-eqb, ne-eqb}
-use Rattle.boolean.specs.Laws.{or-false-left}
-use Rattle.octets.specs.Records.{records, some, records-more, records-none}
+use Rattle.boolean.proofs.Laws.{or-false-left}
+use Rattle.octets.specs.Records.{records, some}
+use Rattle.octets.proofs.Runs.{records-more, records-none}
 use Rattle.address.specs.declared.Address.{Address}
 use Rattle.address.specs.Rules.{sameAddress}
 use Rattle.locator.specs.declared.ListedLocator.{ListedLocator}

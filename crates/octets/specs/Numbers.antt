@@ -1,37 +1,16 @@
 -- "Numbers are big-endian."
-use Prim.Native.Nat.{ℕ, zero, suc, _+_, _*_, _^_, _≤_, _<_}
-use mathlib.Core.Path.{_≡_, refl, ap, sym, _∙_}
-use native.Mathlib.Nat.{pow-succ'}
-use native.Mathlib.Omega.{arith}
+use Prim.Native.Nat.{ℕ, zero, suc, _+_, _*_}
 use mathlib.Core.Bool.{cond}
 use mathlib.Core.List.{List}
 use lib.Dec.{leb}
 use lib.ListN.{length, getD}
-use borrow.Author.Tests.{le-leb, lt-leb}
 
 -- the big-endian number in the w bytes of s at `at`
-abbrev pub bigEndian : List ℕ → ℕ → ℕ → ℕ
+abbrev pub bigEndian : List ℕ → (at w : ℕ) → ℕ
 bigEndian s at zero = 0
 bigEndian s at (suc zero) = getD s at 0
 bigEndian s at (suc (suc w)) = 256 * bigEndian s at (suc w) + getD s (at + suc w) 0
 
--- the number of a field in two parts, of w + 1 and v + 1 bytes: the law over both widths
-pub big-endian-split : (s : List ℕ) (at w v : ℕ)
-    → bigEndian s at (suc (suc (w + v))) ≡ 256 ^ suc v * bigEndian s at (suc w) + bigEndian s (at + suc w) (suc v)
-big-endian-split s at w zero = let e : w + 0 ≡ w = omega arith in rw e refl
-big-endian-split s at w (suc v) =
-    let e : w + suc v ≡ suc (w + v) = omega arith in
-    let i : at + suc (suc (w + v)) ≡ at + suc w + suc v = omega arith in
-    rw (e, i, big-endian-split s at w v) (simp pow-succ' (omega arith))
-
 -- the number in the field of w bytes at `at`; 0 where s ends before the field does
-abbrev pub numberAt : List ℕ → ℕ → ℕ → ℕ
+abbrev pub numberAt : List ℕ → (at w : ℕ) → ℕ
 numberAt s at w = cond (leb (at + w) (length s)) (bigEndian s at w) 0
-
--- a field that lies within s holds its big-endian number: the law for every width
-pub number-within : (s : List ℕ) (at w : ℕ) → at + w ≤ length s → numberAt s at w ≡ bigEndian s at w
-number-within s at w h = rw (le-leb _ _ h)
-
--- a field that s does not hold whole reads as 0
-pub number-beyond : (s : List ℕ) (at w : ℕ) → length s < at + w → numberAt s at w ≡ 0
-number-beyond s at w h = rw (lt-leb _ _ h)

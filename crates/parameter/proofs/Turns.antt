@@ -7,10 +7,11 @@ use native.Mathlib.Omega.{arith}
 use lib.Dec.{ltb, leb, eqb}
 use lib.ListN.{length}
 use borrow.Author.Tests.{lt-ltb, le-ltb, ltb-false, le-leb, lt-leb, leb-true, leb-false}
-use Rattle.boolean.specs.Laws.{or-false-left, or-false-right}
+use Rattle.boolean.proofs.Laws.{or-false-left, or-false-right}
 use Rattle.refusal.specs.declared.Refusal.{Refusal}
 use Rattle.refusal.specs.Table.{refusal}
-use Rattle.octets.specs.Records.{some, records-more, records-none, records}
+use Rattle.octets.specs.Records.{some, records}
+use Rattle.octets.proofs.Runs.{records-more, records-none}
 use Rattle.parameter.specs.declared.Parameter.{Parameter}
 use Rattle.parameter.specs.declared.Survey.{Survey}
 use Rattle.parameter.specs.declared.Walked.{Walked}

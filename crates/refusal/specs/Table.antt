@@ -1,6 +1,5 @@
 -- The table "Why the box says no" of document 01: each refusal and its number.
 use Prim.Native.Nat.{ℕ}
-use mathlib.Core.Path.{_≡_, refl}
 use mathlib.Core.List.{List, [], _∷_}
 use lib.ListN.{getD}
 use Rattle.refusal.specs.declared.Refusal.{Refusal}
@@ -51,23 +50,3 @@ rows =
 -- the refusal of a number: definitions of other crates name a refusal by the table's number, as `refusal 3`
 abbrev pub refusal : ℕ → Refusal
 refusal n = getD rows n BadAssociation
-
--- each case is the refusal of its number
-pub refusal-number : (r : Refusal) → refusal (numberOf r) ≡ r
-refusal-number BadAssociation = refl
-refusal-number ShortReplyBuffer = refl
-refusal-number NotAuthentic = refl
-refusal-number Malformed = refl
-refusal-number UnknownParameter = refl
-refusal-number UnknownMessage = refl
-refusal-number BadLocatorSet = refl
-refusal-number StaleUpdateId = refl
-refusal-number UnmatchedEcho = refl
-refusal-number WrongSpi = refl
-refusal-number RepeatedNonce = refl
-refusal-number UpdateIdsUsedUp = refl
-refusal-number BadTime = refl
-refusal-number BadSize = refl
-refusal-number NoPath = refl
-refusal-number NoCredit = refl
-refusal-number BadStart = refl

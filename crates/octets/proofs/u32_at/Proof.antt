@@ -1,7 +1,7 @@
 -- `octets::u32_at` meets its contract, by the laws of a field over its width. Assumes nothing.
 use mathlib.Core.Path.{sym}
 use native.Mathlib.Omega.{arith}
-use Rattle.octets.specs.Numbers.{number-within, number-beyond}
+use Rattle.octets.proofs.Fields.{number-within, number-beyond}
 use borrow.Author.Needs.{needs}
 use Rattle.octets.proofs.u32_at.Statement.{statement}
 use Rattle.octets.proofs.u32_at.Tie as tie
@@ -10,7 +10,7 @@ returns : tie.Need-returns
 returns c = let a = c .before .before .args in sym (number-beyond (a .s .now) (a .at) 4 (omega arith))
 
 sub-if2 : tie.Need-sub-if2
-sub-if2 c = search needs
+sub-if2 c = omega arith
 
 returns-2 : tie.Need-returns-2
 returns-2 c = let a = c .before .before .before .args in sym (number-beyond (a .s .now) (a .at) 4 (omega arith))

@@ -1,11 +1,10 @@
 -- `parameter::count` meets its contract. Assumes nothing.
 use borrow.Author.Tests.{eq-eqb, ne-eqb}
-use borrow.Author.Needs.{needs}
 use Rattle.parameter.proofs.count.Statement.{statement}
 use Rattle.parameter.proofs.count.Tie as tie
 
 once-more-requires : tie.Need-once-more-requires
-once-more-requires c κs = search needs
+once-more-requires c κs = tt
 
 returns : tie.Need-returns
 returns c = simp (eq-eqb _ _ (c .before .if1 .taken)) (c .once-more .ensures)

@@ -1,9 +1,9 @@
 -- `parameter::header_holds` meets its contract: each test that fails settles it, and all hold at the end. Assumes nothing.
+use native.Mathlib.Omega.{arith}
 use mathlib.Core.Path.{refl}
 use mathlib.Core.Bool.{and-false}
 use borrow.Author.Tests.{eq-eqb, ne-eqb, le-leb, lt-leb}
-use Rattle.boolean.specs.Laws.{and-step}
-use borrow.Author.Needs.{needs}
+use Rattle.boolean.proofs.Laws.{and-step}
 use Rattle.parameter.proofs.header_holds.Statement.{statement}
 use Rattle.parameter.proofs.header_holds.Tie as tie
 
@@ -11,34 +11,34 @@ returns : tie.Need-returns
 returns c = simp (lt-leb _ _ (c .if1 .taken))
 
 shared-slice-read-if2 : tie.Need-shared-slice-read-if2
-shared-slice-read-if2 c = search needs
+shared-slice-read-if2 c = omega arith
 
 returns-2 : tie.Need-returns-2
 returns-2 c = simp (ne-eqb _ _ (c .if2 .taken), and-false)
 
 shared-slice-read-header-length : tie.Need-shared-slice-read-header-length
-shared-slice-read-header-length c = search needs
+shared-slice-read-header-length c = omega arith
 
 header-length-requires : tie.Need-header-length-requires
-header-length-requires c κs = search needs
+header-length-requires c κs = tt
 
 returns-3 : tie.Need-returns-3
 returns-3 c = simp (ne-eqb _ _ (rw (c .before .header-length .ensures) at (c .if3 .taken)), and-false)
 
 shared-slice-read-if4 : tie.Need-shared-slice-read-if4
-shared-slice-read-if4 c = search needs
+shared-slice-read-if4 c = omega arith
 
 returns-4 : tie.Need-returns-4
 returns-4 c = simp (ne-eqb _ _ (c .if4 .taken), and-false)
 
 shared-slice-read-if5 : tie.Need-shared-slice-read-if5
-shared-slice-read-if5 c = search needs
+shared-slice-read-if5 c = omega arith
 
 returns-5 : tie.Need-returns-5
 returns-5 c = simp (ne-eqb _ _ (c .if5 .taken), and-false)
 
 shared-slice-read-result : tie.Need-shared-slice-read-result
-shared-slice-read-result c = search needs
+shared-slice-read-result c = omega arith
 
 returns-6 : tie.Need-returns-6
 returns-6 c = and-step (le-leb _ _ (c .before .before .before .before .before .before .before .before .before .before .if1 .left))

@@ -1,25 +1,24 @@
 -- `parameter::note` meets its contract, field by field. Assumes nothing.
-use borrow.Author.Needs.{needs}
 use Rattle.parameter.proofs.note.Statement.{statement}
 use Rattle.parameter.proofs.note.Tie as tie
 
 note-type-requires : tie.Need-note-type-requires
-note-type-requires c κs = search needs
+note-type-requires c κs = tt
 
 count-requires : tie.Need-count-requires
-count-requires c κs = search needs
+count-requires c κs = tt
 
 count-requires-2 : tie.Need-count-requires-2
-count-requires-2 c κs = search needs
+count-requires-2 c κs = tt
 
 count-requires-3 : tie.Need-count-requires-3
-count-requires-3 c κs = search needs
+count-requires-3 c κs = tt
 
 count-requires-4 : tie.Need-count-requires-4
-count-requires-4 c κs = search needs
+count-requires-4 c κs = tt
 
 count-requires-5 : tie.Need-count-requires-5
-count-requires-5 c κs = search needs
+count-requires-5 c κs = tt
 
 returns : tie.Need-returns
 returns c = λ i. record {

@@ -1,11 +1,10 @@
 -- `parameter::note_type` meets its contract. Assumes nothing.
 use mathlib.Core.Path.{sym, _∙_}
-use borrow.Author.Needs.{needs}
 use Rattle.parameter.proofs.note_type.Statement.{statement}
 use Rattle.parameter.proofs.note_type.Tie as tie
 
 refused-type-requires : tie.Need-refused-type-requires
-refused-type-requires c κs = search needs
+refused-type-requires c κs = tt
 
 returns : tie.Need-returns
 returns c = rw (sym (c .before .refused-type .ensures) ∙ c .if1 .taken)

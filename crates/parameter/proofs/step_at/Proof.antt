@@ -2,7 +2,6 @@
 use mathlib.Core.Path.{sym, _∙_}
 use native.Mathlib.Omega.{arith}
 use Rattle.parameter.proofs.Turns.{step-end, step-past, step-wrong, step-found}
-use borrow.Author.Needs.{needs}
 use Rattle.parameter.proofs.step_at.Statement.{statement}
 use Rattle.parameter.proofs.step_at.Tie as tie
 
@@ -10,34 +9,34 @@ returns : tie.Need-returns
 returns c = let a = c .before .before .args in step-end (a .packet .now) (a .at) (omega arith)
 
 sub-left : tie.Need-sub-left
-sub-left c = search needs
+sub-left c = omega arith
 
 returns-2 : tie.Need-returns-2
 returns-2 c = let a = c .before .before .before .args in step-past (a .packet .now) (a .at) (omega arith) (omega arith)
 
 u16-at-requires : tie.Need-u16-at-requires
-u16-at-requires c κs = search needs
+u16-at-requires c κs = tt
 
 add-u16-at : tie.Need-add-u16-at
-add-u16-at c = search needs
+add-u16-at c = omega arith
 
 u16-at-requires-2 : tie.Need-u16-at-requires-2
-u16-at-requires-2 c κs = search needs
+u16-at-requires-2 c κs = tt
 
 add-size : tie.Need-add-size
-add-size c = search needs
+add-size c = omega arith
 
 add-size-2 : tie.Need-add-size-2
-add-size-2 c = search needs
+add-size-2 c = omega arith
 
 sub-size : tie.Need-sub-size
-sub-size c = search needs
+sub-size c = omega arith
 
 returns-3 : tie.Need-returns-3
 returns-3 c = let a = c .before .before .before .before .before .before .args in step-past (a .packet .now) (a .at) (omega arith) (omega (arith, c .before .u16-at2 .ensures .0))
 
 wrong-length-requires : tie.Need-wrong-length-requires
-wrong-length-requires c κs = search needs
+wrong-length-requires c κs = tt
 
 returns-4 : tie.Need-returns-4
 returns-4 c = let a = c .before .before .before .before .before .before .before .before .args in
@@ -45,10 +44,10 @@ returns-4 c = let a = c .before .before .before .before .before .before .before 
     (sym (rw (c .before .before .before .before .u16-at .ensures .0, c .before .before .before .u16-at2 .ensures .0) at (c .before .wrong-length .ensures)) ∙ c .if4 .taken)
 
 add-t11 : tie.Need-add-t11
-add-t11 c = search needs
+add-t11 c = omega arith
 
 add-t7 : tie.Need-add-t7
-add-t7 c = search needs
+add-t7 c = omega arith
 
 returns-5 : tie.Need-returns-5
 returns-5 c = let a = c .before .before .before .before .before .before .before .before .args in

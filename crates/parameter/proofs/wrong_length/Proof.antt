@@ -1,12 +1,11 @@
 -- `parameter::wrong_length` meets its contract. Assumes nothing.
 use borrow.Author.Tests.{ne-eqb}
 use Rattle.parameter.specs.Types.{wrongLength}
-use borrow.Author.Needs.{needs}
 use Rattle.parameter.proofs.wrong_length.Statement.{statement}
 use Rattle.parameter.proofs.wrong_length.Tie as tie
 
 either-requires : tie.Need-either-requires
-either-requires c κs = search needs
+either-requires c κs = tt
 
 returns : tie.Need-returns
 unfolding wrongLength

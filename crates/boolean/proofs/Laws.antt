@@ -1,4 +1,4 @@
--- Laws of tests that the library lacks.
+-- Laws of tests that the library lacks. Assumes nothing.
 use mathlib.Core.Path.{_≡_, refl}
 use mathlib.Core.Bool.{Bool, true, false, _&&_, _||_}
 
@@ -11,10 +11,14 @@ pub or-false-right : (a b : Bool) → (a || b) ≡ false → b ≡ false
 or-false-right true b e = cc
 or-false-right false b e = e
 
--- the first of two tests holds where their conjunction does
+-- both of two tests hold where their conjunction does
 pub and-true-left : (a b : Bool) → (a && b) ≡ true → a ≡ true
 and-true-left true b e = refl
 and-true-left false b e = e
+
+pub and-true-right : (a b : Bool) → (a && b) ≡ true → b ≡ true
+and-true-right true b e = e
+and-true-right false b e = cc
 
 -- a test that holds leaves the tests after it
 pub and-step : {a b x : Bool} → a ≡ true → x ≡ b → x ≡ (a && b)
