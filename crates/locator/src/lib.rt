@@ -130,8 +130,8 @@ fn mark_of(preferred: bool) -> usize
     if preferred { 1 } else { 0 }
 }
 
-// An array without locators.
-fn blank_array() -> [ListedLocator; 8]
+// An array that lists no locator.
+pub fn no_locators() -> [ListedLocator; 8]
     ensures { λ r. ⌜ r ≡ blanks ⌝ }
 {
     let address = Address { high: 0, low: 0 };
@@ -150,7 +150,7 @@ fn blank_array() -> [ListedLocator; 8]
 fn refuse_set() -> LocatorSet
     ensures { λ r. ⌜ r ≡ refusedSet ⌝ }
 {
-    let listed = blank_array();
+    let listed = no_locators();
     LocatorSet {
         verdict: SetVerdict::RefusedSet(Refusal::BadLocatorSet),
         listed,
@@ -164,7 +164,7 @@ pub fn read_set(s: &[u8]) -> LocatorSet
     if s.len() == 0 {
         return refuse_set();
     }
-    let mut listed = blank_array();
+    let mut listed = no_locators();
     let mut highs = [0u64; 8];
     let mut lows = [0u64; 8];
     let mut count: usize = 0;

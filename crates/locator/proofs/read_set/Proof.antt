@@ -21,11 +21,11 @@ refuse-set-requires c κs = tt
 returns : tie.Need-returns Inv-loop μ-loop
 returns c = c .refuse-set .ensures ∙ set-empty _ (c .before .if1 .taken)
 
-blank-array-requires : tie.Need-blank-array-requires Inv-loop μ-loop
-blank-array-requires c κs = tt
+no-locators-requires : tie.Need-no-locators-requires Inv-loop μ-loop
+no-locators-requires c κs = tt
 
 loop-holds : tie.Need-loop-holds Inv-loop μ-loop
-loop-holds c = rw (c .blank-array .ensures) (set-starts _ _ _ refl refl (c .before .if1 .left))
+loop-holds c = rw (c .no-locators .ensures) (set-starts _ _ _ refl refl (c .before .if1 .left))
 
 refuse-set-requires-2 : tie.Need-refuse-set-requires-2 Inv-loop μ-loop
 refuse-set-requires-2 c κs = tt
@@ -108,7 +108,7 @@ read-set-spec =
     μ-loop
     refuse-set-requires
     returns
-    blank-array-requires
+    no-locators-requires
     loop-holds
     refuse-set-requires-2
     returns-2

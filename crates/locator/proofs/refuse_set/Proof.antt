@@ -5,11 +5,11 @@ use borrow.Author.Needs.{needs}
 use Rattle.locator.proofs.refuse_set.Statement.{statement}
 use Rattle.locator.proofs.refuse_set.Tie as tie
 
-blank-array-requires : tie.Need-blank-array-requires
-blank-array-requires c κs = search needs
+no-locators-requires : tie.Need-no-locators-requires
+no-locators-requires c κs = search needs
 
 returns : tie.Need-returns
-returns c = λ i. record { verdict = RefusedSet (refusal 6); listed = c .blank-array .ensures i }
+returns c = λ i. record { verdict = RefusedSet (refusal 6); listed = c .no-locators .ensures i }
 
 pub refuse-set-spec : {M : Type 1} → statement M
-refuse-set-spec = tie.close (tie.spec blank-array-requires returns)
+refuse-set-spec = tie.close (tie.spec no-locators-requires returns)

@@ -1,0 +1,24 @@
+-- "Accepted messages are of two kinds." Move and Reply are document 01's terms.
+use mathlib.Core.Bool.{Bool, _&&_}
+use lib.Dec.{ltb, eqb}
+use Rattle.parameter.specs.declared.Occurrence.{Occurrence}
+use Rattle.parameter.specs.declared.Survey.{Survey}
+
+abbrev pub exactlyOne : Occurrence → Bool
+exactlyOne seen = eqb (seen .times) 1
+
+abbrev pub atMostOne : Occurrence → Bool
+atMostOne seen = ltb (seen .times) 2
+
+abbrev pub none : Occurrence → Bool
+none seen = eqb (seen .times) 0
+
+-- "A Move has exactly one each of ESP_INFO, LOCATOR_SET and SEQ, at most one echo response and one ACK."
+unfoldable pub isMove : Survey → Bool
+isMove seen =
+    exactlyOne (seen .esp) && (exactlyOne (seen .set) && (exactlyOne (seen .seq) && (atMostOne (seen .echo) && atMostOne (seen .ack))))
+
+-- "A Reply has exactly one echo response, none of those three, at most one ACK."
+unfoldable pub isReply : Survey → Bool
+isReply seen =
+    exactlyOne (seen .echo) && (none (seen .esp) && (none (seen .set) && (none (seen .seq) && atMostOne (seen .ack))))

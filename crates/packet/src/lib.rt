@@ -1,0 +1,175 @@
+// What a packet says: refusals 3 to 6, or a Move or a Reply with all that the layers above ask of it, so that none of them reads packet bytes.
+// Depends on parameter, locator, octets, boolean, refusal.
+use locator::ListedLocator;
+use locator::SetVerdict;
+use parameter::Occurrence;
+use parameter::Survey;
+use parameter::Walked;
+use refusal::Refusal;
+ghost use mathlib.Core.Path.{_≡_};
+ghost use Prim.Native.Nat.{_+_, _≤_};
+ghost use lib.ListN.{length};
+ghost use Rattle.packet.specs.Kinds.{isMove, isReply};
+ghost use Rattle.packet.specs.Readings.{echoOf, fieldsOf, refusing, moveOf, kindOf, Parts, readingOf};
+
+// An echo response: none, the nonce of one that is 8 bytes long, or one of another length, which matches no nonce.
+pub enum EchoResponse {
+    Absent,
+    Nonce(u64),
+    OtherLength,
+}
+
+// What a Move says: KEYMAT Index, OLD SPI, NEW SPI, Update ID, how many locators it lists, and its echo response.
+pub struct MoveFields {
+    pub keymat: u16,
+    pub old: u32,
+    pub new: u32,
+    pub id: u32,
+    pub count: usize,
+    pub echo: EchoResponse,
+}
+
+// Move and Reply are document 01's terms for the two kinds of message.
+pub enum Message {
+    Refused(Refusal),
+    Move(MoveFields),
+    Reply(EchoResponse),
+}
+
+// What is read of a packet. The locators that a Move lists come first in the array, in order, and blanks after them; else all are blank.
+pub struct Reading {
+    pub message: Message,
+    pub listed: [ListedLocator; 8],
+}
+
+// The packet is refused.
+fn refuse(refusal: Refusal) -> Reading
+    ensures { λ r. ⌜ r ≡ refusing refusal ⌝ }
+{
+    let listed = locator::no_locators();
+    Reading {
+        message: Message::Refused(refusal),
+        listed,
+    }
+}
+
+// The first echo response.
+fn echo_of(packet: &[u8], echo: Occurrence) -> EchoResponse
+    ensures { λ r. ⌜ r ≡ echoOf (now (packet .entry)) echo ⌝ }
+{
+    if echo.times == 0 {
+        return EchoResponse::Absent;
+    }
+    if echo.len != 8 {
+        return EchoResponse::OtherLength;
+    }
+    EchoResponse::Nonce(octets::u64_at(packet, echo.body))
+}
+
+// What a Move that lists `count` locators says.
+fn fields_of(packet: &[u8], seen: Survey, count: usize) -> MoveFields
+    requires { ⌜ seen .esp .body ≤ length (now packet) ⌝ }
+    ensures { λ r. ⌜ r ≡ fieldsOf (now (packet .entry)) seen count ⌝ }
+{
+    let esp = seen.esp;
+    let seq = seen.seq;
+    let occurrence = seen.echo;
+    let at = esp.body;
+    let echo = echo_of(packet, occurrence);
+    MoveFields {
+        keymat: octets::u16_at(packet, at + 2) as u16,
+        old: octets::u32_at(packet, at + 4),
+        new: octets::u32_at(packet, at + 8),
+        id: octets::u32_at(packet, seq.body),
+        count,
+        echo,
+    }
+}
+
+// A Move, or refusal 6.
+fn read_move(packet: &[u8], seen: Survey) -> Reading
+    requires { ⌜ Parts (now packet) seen ⌝ }
+    ensures { λ r. ⌜ r ≡ moveOf (now (packet .entry)) seen ⌝ }
+{
+    let set = seen.set;
+    let start = set.body;
+    let end = start + set.len;
+    let read = locator::read_set(&packet[start..end]);
+    let verdict = read.verdict;
+    match verdict {
+        SetVerdict::RefusedSet(refusal) => refuse(refusal),
+        SetVerdict::Holds(count) => {
+            let listed = read.listed;
+            let fields = fields_of(packet, seen, count);
+            Reading {
+                message: Message::Move(fields),
+                listed,
+            }
+        }
+    }
+}
+
+fn is_move(seen: Survey) -> bool
+    ensures { λ r. ⌜ r ≡ isMove seen ⌝ }
+{
+    boolean::both(
+        seen.esp.times == 1,
+        boolean::both(
+            seen.set.times == 1,
+            boolean::both(
+                seen.seq.times == 1,
+                boolean::both(seen.echo.times < 2, seen.ack.times < 2),
+            ),
+        ),
+    )
+}
+
+fn is_reply(seen: Survey) -> bool
+    ensures { λ r. ⌜ r ≡ isReply seen ⌝ }
+{
+    boolean::both(
+        seen.echo.times == 1,
+        boolean::both(
+            seen.esp.times == 0,
+            boolean::both(
+                seen.set.times == 0,
+                boolean::both(seen.seq.times == 0, seen.ack.times < 2),
+            ),
+        ),
+    )
+}
+
+// A Move, a Reply, or refusal 5.
+fn read_kind(packet: &[u8], seen: Survey) -> Reading
+    requires { ⌜ Parts (now packet) seen ⌝ }
+    ensures { λ r. ⌜ r ≡ kindOf (now (packet .entry)) seen ⌝ }
+{
+    if is_move(seen) {
+        return read_move(packet, seen);
+    }
+    if is_reply(seen) {
+        let occurrence = seen.echo;
+        let echo = echo_of(packet, occurrence);
+        let listed = locator::no_locators();
+        return Reading {
+            message: Message::Reply(echo),
+            listed,
+        };
+    }
+    refuse(Refusal::UnknownMessage)
+}
+
+// Refusals 3 to 6, or what the packet says: one pass over its parameters and one over its set.
+pub fn read_packet(packet: &[u8]) -> Reading
+    ensures { λ r. ⌜ r ≡ readingOf (now (packet .entry)) ⌝ }
+{
+    match parameter::walk(packet) {
+        Walked::Rejected(refusal) => refuse(refusal),
+        Walked::Complete(seen) => {
+            if seen.unknown != 0 {
+                return refuse(Refusal::UnknownParameter);
+            }
+            read_kind(packet, seen)
+        }
+    }
+}
