@@ -13,7 +13,7 @@ use Rattle.parameter.specs.Survey.{surveyOf, refusal3}
 use Rattle.parameter.specs.declared.Occurrence.{Occurrence}
 use Rattle.parameter.proofs.Within.{lies-within}
 use Rattle.echo.specs.declared.Place.{Place}
-use Rattle.echo.specs.Parts.{nonceSize, sameBytes, partAt, echoes, placeOf}
+use Rattle.echo.specs.Parts.{nonceSize, sameBytes, partAt, echoes, atEnd, placeOf}
 
 -- ---- whether the first echo response is the nonce
 module _ (s : List ℕ) (echo : Occurrence) (nonce : List ℕ) where
@@ -34,15 +34,15 @@ abbrev Lies : List ℕ → Place → Type 0
 Lies s place = place .start + place .len ≤ length s
 
 module _ (s nonce : List ℕ) where
-  pub place-short : (length nonce ≡ nonceSize → ⊥) → record { start = length s; len = 0 } ≡ placeOf s nonce
+  pub place-short : (length nonce ≡ nonceSize → ⊥) → atEnd s ≡ placeOf s nonce
   unfolding placeOf
   place-short h = rw (ne-eqb _ _ h)
 
-  pub place-refused : refusal3 s ≡ true → record { start = length s; len = 0 } ≡ placeOf s nonce
+  pub place-refused : refusal3 s ≡ true → atEnd s ≡ placeOf s nonce
   unfolding placeOf
   place-refused h = simp (h, and-false)
 
-  pub place-missed : echoes s (surveyOf s .echo) nonce ≡ false → record { start = length s; len = 0 } ≡ placeOf s nonce
+  pub place-missed : echoes s (surveyOf s .echo) nonce ≡ false → atEnd s ≡ placeOf s nonce
   unfolding placeOf
   place-missed h = simp (h, and-false)
 
@@ -68,6 +68,6 @@ module _ (s nonce : List ℕ) where
           omega (arith, lies-within s echoResponseSigned allowed)
 
       go : (b : Bool) → (eqb (length nonce) nonceSize && (not (refusal3 s) && echoes s (surveyOf s .echo) nonce)) ≡ b
-          → Lies s (cond b (record { start = surveyOf s .echo .body; len = nonceSize }) (record { start = length s; len = 0 }))
+          → Lies s (cond b (record { start = surveyOf s .echo .body; len = nonceSize }) (atEnd s))
       go true h = fits h
       go false h = omega arith

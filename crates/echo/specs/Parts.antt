@@ -30,13 +30,17 @@ unfoldable pub echoes : List ℕ → Occurrence → List ℕ → Bool
 echoes s echo nonce =
     not (eqb (echo .times) 0) && (eqb (echo .len) nonceSize && sameBytes (partAt s (echo .body) nonceSize) nonce)
 
+-- the empty part at the packet's end
+abbrev pub atEnd : List ℕ → Place
+atEnd s = record { start = length s; len = 0 }
+
 -- "The part is empty, at the packet's end, if the nonce is not eight bytes long, the packet earns refusal 3, it has no echo response, or the
 -- first one is not those eight bytes."
 unfoldable pub placeOf : List ℕ → List ℕ → Place
 placeOf s nonce =
     cond (eqb (length nonce) nonceSize && (not (refusal3 s) && echoes s (surveyOf s .echo) nonce))
     (record { start = surveyOf s .echo .body; len = nonceSize })
-    (record { start = length s; len = 0 })
+    (atEnd s)
 
 -- r is the packet's own part at a place: it points into the packet's memory, at that place, and holds the bytes there
 pub record Part (packet : RefT (List ℕ)) (place : Place) (r : RefT (List ℕ)) : Type 0 where

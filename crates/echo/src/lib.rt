@@ -4,7 +4,7 @@ use parameter::Walked;
 ghost use mathlib.Core.Path.{_≡_};
 ghost use Prim.Native.Nat.{_+_, _≤_};
 ghost use lib.ListN.{length};
-ghost use Rattle.echo.specs.Parts.{sameBytes, echoes, placeOf, Part};
+ghost use Rattle.echo.specs.Parts.{sameBytes, echoes, atEnd, placeOf, Part};
 
 // A part of a packet: where it starts and how long it is.
 pub struct Place {
@@ -45,21 +45,25 @@ fn is_echo(packet: &[u8], echo: Occurrence, nonce: &[u8]) -> bool
     same_bytes(&packet[start..end], nonce)
 }
 
+// The empty part at the packet's end.
+fn at_end(packet: &[u8]) -> Place
+    ensures { λ r. ⌜ r ≡ atEnd (now (packet .entry)) ⌝ }
+{
+    Place {
+        start: packet.len(),
+        len: 0,
+    }
+}
+
 // Where the part that echoes the nonce lies: empty at the packet's end where no part does.
 pub fn echo_place(packet: &[u8], nonce: &[u8]) -> Place
     ensures { λ r. ⌜ r ≡ placeOf (now (packet .entry)) (now (nonce .entry)) ⌝ }
 {
     if nonce.len() != 8 {
-        return Place {
-            start: packet.len(),
-            len: 0,
-        };
+        return at_end(packet);
     }
     match parameter::walk(packet) {
-        Walked::Rejected(_) => Place {
-            start: packet.len(),
-            len: 0,
-        },
+        Walked::Rejected(_) => at_end(packet),
         Walked::Complete(seen) => {
             let echo = seen.echo;
             if is_echo(packet, echo, nonce) {
@@ -68,10 +72,7 @@ pub fn echo_place(packet: &[u8], nonce: &[u8]) -> Place
                     len: 8,
                 }
             } else {
-                Place {
-                    start: packet.len(),
-                    len: 0,
-                }
+                at_end(packet)
             }
         }
     }

@@ -1,1 +1,154 @@
--- Examples
+-- Worked examples, computed from the definitions: a packet for each condition of refusals 3 to 6, accepted Moves and Replies.
+use Prim.Native.Nat.{ℕ, zero, suc, _+_, _-_, _/_, _%_}
+use mathlib.Core.Path.{_≡_, refl}
+use mathlib.Core.Bool.{true, false}
+use mathlib.Core.List.{List, [], _∷_, _++_, map}
+use lib.ListN.{length, replicate}
+use Rattle.refusal.specs.Table.{refusal}
+use Rattle.octets.specs.Records.{records, some}
+use Rattle.address.specs.Rules.{legal}
+use Rattle.parameter.specs.Types.{espInfo, locatorSet, seq, ack, echoRequestSigned, echoResponseSigned, refusedType, wrongLength}
+use Rattle.parameter.specs.Parameters.{takes, falls}
+use Rattle.parameter.specs.Survey.{occurs}
+use Rattle.locator.specs.declared.ListedLocator.{ListedLocator}
+use Rattle.locator.specs.Locators.{illForm}
+use Rattle.locator.specs.Sets.{twice, marks, unfit, padded}
+use Rattle.packet.specs.declared.EchoResponse.the-variants.{Absent, Nonce, OtherLength}
+use Rattle.packet.specs.declared.Message.{Message}
+use Rattle.packet.specs.declared.Message.the-variants.{Refused, Move, Reply}
+use Rattle.packet.specs.declared.Reading.{Reading}
+use Rattle.packet.specs.Kinds.{isMove, isReply}
+use Rattle.packet.specs.Readings.{kindOf, readingOf}
+
+-- ---- packets
+-- a parameter with its padding
+abbrev parameter : (type : ℕ) → List ℕ → List ℕ
+parameter type body =
+    (type / 256) ∷ (type % 256) ∷ (length body / 256) ∷ (length body % 256) ∷ body ++ replicate (takes (length body) - 4 - length body) 0
+
+-- a header and what follows it
+abbrev packetOf : List ℕ → List ℕ
+packetOf rest = 59 ∷ (4 + length rest / 8) ∷ 16 ∷ 0x21 ∷ replicate 36 0 ++ rest
+
+-- KEYMAT Index 7, OLD SPI 0x1001, NEW SPI 0x1002
+abbrev esp : List ℕ
+esp = parameter espInfo (0 ∷ 0 ∷ 0 ∷ 7 ∷ 0 ∷ 0 ∷ 0x10 ∷ 1 ∷ 0 ∷ 0 ∷ 0x10 ∷ 2 ∷ [])
+
+-- Update ID 9
+abbrev id : List ℕ
+id = parameter seq (0 ∷ 0 ∷ 0 ∷ 9 ∷ [])
+
+-- an echo response with a nonce of 8 bytes
+abbrev echo : List ℕ
+echo = parameter echoResponseSigned (1 ∷ 2 ∷ 3 ∷ 4 ∷ 5 ∷ 6 ∷ 7 ∷ 8 ∷ [])
+
+-- a locator of 0x20 .. 0x20 and a last byte, by its head: traffic type, locator type, length, P, lifetime
+abbrev locator : (traffic kind units p lifetime last : ℕ) → List ℕ
+locator traffic kind units p lifetime last = traffic ∷ kind ∷ units ∷ p ∷ 0 ∷ 0 ∷ 0 ∷ lifetime ∷ replicate 15 0x20 ++ (last ∷ [])
+
+-- the same of type 0, for both kinds of traffic and 60 seconds, without P
+abbrev plain : (last : ℕ) → List ℕ
+plain last = locator 0 0 4 0 60 last
+
+-- a locator of the IPv4 address a.0.0.1
+abbrev ipv4 : (a : ℕ) → List ℕ
+ipv4 a = 0 ∷ 0 ∷ 4 ∷ 0 ∷ 0 ∷ 0 ∷ 0 ∷ 60 ∷ replicate 10 0 ++ (0xff ∷ 0xff ∷ a ∷ 0 ∷ 0 ∷ 1 ∷ [])
+
+-- a type 1 locator for signalling and 300 seconds, with P and a reserved bit set
+abbrev bound : List ℕ
+bound = 1 ∷ 1 ∷ 5 ∷ 0x81 ∷ 0 ∷ 0 ∷ 1 ∷ 44 ∷ 0 ∷ 0 ∷ 0x10 ∷ 2 ∷ replicate 16 0x30
+
+-- n locators with other addresses
+unfoldable several : ℕ → List ℕ
+several zero = []
+several (suc n) = plain n ++ several n
+
+-- a Move with the bytes of a set
+abbrev moveOf : List ℕ → List ℕ
+moveOf set = packetOf (esp ++ (parameter locatorSet set ++ id))
+
+-- what a Move says that lists so many locators
+abbrev says : ℕ → Message
+says count = Move (record { keymat = 7; old = 0x1001; new = 0x1002; id = 9; count = count; echo = Absent })
+
+-- ---- the table: a packet, and what it says
+record Row : Type 0 where
+  packet : List ℕ
+  says : Message
+
+infixr 4 _gives_
+abbrev _gives_ : List ℕ → Message → Row
+packet gives message = record { packet = packet; says = message }
+
+abbrev table : List Row
+table =
+    -- refusal 3: under 40 bytes, the header's rule, past the end, a falling type, a wrong L
+    (replicate 39 0 gives Refused (refusal 3))
+    ∷ ((58 ∷ 4 ∷ 16 ∷ 0x21 ∷ replicate 36 0) gives Refused (refusal 3))
+    ∷ ((59 ∷ 5 ∷ 16 ∷ 0x21 ∷ replicate 36 0) gives Refused (refusal 3))
+    ∷ (packetOf (0 ∷ 66 ∷ 0 ∷ 5 ∷ 0 ∷ 0 ∷ 0 ∷ 0 ∷ []) gives Refused (refusal 3))
+    ∷ (packetOf (id ++ esp) gives Refused (refusal 3))
+    ∷ (packetOf (parameter espInfo (replicate 8 0)) gives Refused (refusal 3))
+    ∷ (packetOf (parameter seq (replicate 8 0)) gives Refused (refusal 3))
+    ∷ (packetOf (parameter ack []) gives Refused (refusal 3))
+    -- all parameters are judged by refusal 3 before any is by refusal 4
+    ∷ (packetOf (parameter 67 [] ++ parameter ack []) gives Refused (refusal 3))
+    -- refusal 4: an odd type not known, or 897
+    ∷ (packetOf (parameter 67 []) gives Refused (refusal 4))
+    ∷ (packetOf (parameter echoRequestSigned (replicate 8 0)) gives Refused (refusal 4))
+    -- refusal 5: no parameter, an even type alone, a second echo response, a Move's parameter in a Reply
+    ∷ (packetOf [] gives Refused (refusal 5))
+    ∷ (packetOf (parameter 66 []) gives Refused (refusal 5))
+    ∷ (packetOf (echo ++ echo) gives Refused (refusal 5))
+    ∷ (packetOf (id ++ echo) gives Refused (refusal 5))
+    -- refusal 6, by each of its conditions
+    ∷ (moveOf [] gives Refused (refusal 6))
+    ∷ (moveOf (several 9) gives Refused (refusal 6))
+    ∷ (moveOf (plain 1 ++ (0 ∷ [])) gives Refused (refusal 6))
+    ∷ (moveOf (locator 3 0 4 0 60 1) gives Refused (refusal 6))
+    ∷ (moveOf (locator 0 2 6 0 60 1 ++ replicate 8 0) gives Refused (refusal 6))
+    ∷ (moveOf (locator 0 0 5 0 60 1 ++ replicate 4 0) gives Refused (refusal 6))
+    ∷ (moveOf (locator 0 0 4 0 0 1) gives Refused (refusal 6))
+    ∷ (moveOf (ipv4 224) gives Refused (refusal 6))
+    ∷ (moveOf (ipv4 239) gives Refused (refusal 6))
+    ∷ (moveOf (plain 1 ++ plain 1) gives Refused (refusal 6))
+    ∷ (moveOf (locator 0 0 4 1 60 1 ++ locator 0 0 4 1 60 2) gives Refused (refusal 6))
+    -- accepted
+    ∷ (moveOf (several 8) gives says 8)
+    ∷ (moveOf (ipv4 223 ++ ipv4 240) gives says 2)
+    ∷ (packetOf (esp ++ (parameter 66 [] ++ (parameter locatorSet (plain 1) ++ (id ++ parameter ack (replicate 8 0))))) gives says 1)
+    ∷ (packetOf echo gives Reply (Nonce 0x0102030405060708))
+    ∷ (packetOf (parameter echoResponseSigned (replicate 7 1)) gives Reply OtherLength)
+    ∷ []
+
+-- every row agrees with the definitions
+agrees : map (λ (row : Row). readingOf (row .packet) .message) table ≡ map (λ (row : Row). row .says) table
+unfolding several records some legal refusedType wrongLength falls occurs illForm twice marks unfit isMove isReply kindOf readingOf
+agrees = refl
+
+-- a whole reading: a Move with an echo response and a second locator of type 1, and what it lists
+whole : readingOf (packetOf (esp ++ (parameter locatorSet (plain 1 ++ bound) ++ (id ++ echo)))) ≡ record {
+  message =
+      Move (record { keymat = 7; old = 0x1001; new = 0x1002; id = 9; count = 2; echo = Nonce 0x0102030405060708 });
+  listed =
+      padded
+      (record {
+        address = record { high = 0x2020202020202020; low = 0x2020202020202001 };
+        lifetime = 60;
+        spi = 0;
+        traffic = 0;
+        kind = 0;
+        preferred = false;
+      }
+      ∷ record {
+        address = record { high = 0x3030303030303030; low = 0x3030303030303030 };
+        lifetime = 300;
+        spi = 0x1002;
+        traffic = 1;
+        kind = 1;
+        preferred = true;
+      }
+      ∷ []);
+}
+unfolding records some legal refusedType wrongLength falls occurs illForm twice marks unfit isMove isReply kindOf readingOf
+whole = refl

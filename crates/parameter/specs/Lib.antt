@@ -2,3 +2,4 @@ pub mod Header
 pub mod Types
 pub mod Parameters
 pub mod Survey
+pub mod Examples
