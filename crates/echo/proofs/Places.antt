@@ -9,9 +9,9 @@ use lib.ListN.{length}
 use borrow.Author.Tests.{eq-eqb, ne-eqb, eqb-true, not-true}
 use Rattle.boolean.proofs.Laws.{and-true-left, and-true-right}
 use Rattle.parameter.specs.Types.{echoResponseSigned}
-use Rattle.parameter.specs.Survey.{surveyOf, refusal3}
-use Rattle.parameter.specs.declared.Occurrence.{Occurrence}
-use Rattle.parameter.proofs.Within.{lies-within}
+use Rattle.frame.specs.Survey.{surveyOf, refusal3}
+use Rattle.frame.specs.declared.Occurrence.{Occurrence}
+use Rattle.frame.proofs.Within.{lies-within}
 use Rattle.echo.specs.declared.Place.{Place}
 use Rattle.echo.specs.Parts.{nonceSize, sameBytes, partAt, echoes, atEnd, placeOf}
 

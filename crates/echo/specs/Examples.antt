@@ -5,8 +5,8 @@ use mathlib.Core.List.{List, [], _∷_, _++_}
 use lib.ListN.{replicate}
 use Rattle.octets.specs.Records.{records, some}
 use Rattle.parameter.specs.Types.{refusedType, wrongLength}
-use Rattle.parameter.specs.Parameters.{falls}
-use Rattle.parameter.specs.Survey.{occurs}
+use Rattle.frame.specs.Parameters.{falls}
+use Rattle.frame.specs.Survey.{occurs}
 use Rattle.echo.specs.declared.Place.{Place}
 use Rattle.echo.specs.Parts.{sameBytes, echoes, placeOf}
 

@@ -6,8 +6,8 @@ use mathlib.Core.List.{List, [], _∷_}
 use lib.Dec.{eqb}
 use denote.Ref.{RefT, ptr, now}
 use lib.ListN.{length, take, drop}
-use Rattle.parameter.specs.Survey.{surveyOf, refusal3}
-use Rattle.parameter.specs.declared.Occurrence.{Occurrence}
+use Rattle.frame.specs.Survey.{surveyOf, refusal3}
+use Rattle.frame.specs.declared.Occurrence.{Occurrence}
 use Rattle.echo.specs.declared.Place.{Place}
 
 -- a nonce's bytes

@@ -1,6 +1,6 @@
-// For the log: the part of a packet that echoes a nonce. Depends on parameter.
-use parameter::Occurrence;
-use parameter::Walked;
+// For the log: the part of a packet that echoes a nonce. Depends on frame.
+use frame::Occurrence;
+use frame::Walked;
 ghost use mathlib.Core.Path.{_≡_};
 ghost use Prim.Native.Nat.{_+_, _≤_};
 ghost use lib.ListN.{length};
@@ -62,7 +62,7 @@ pub fn echo_place(packet: &[u8], nonce: &[u8]) -> Place
     if nonce.len() != 8 {
         return at_end(packet);
     }
-    match parameter::walk(packet) {
+    match frame::walk(packet) {
         Walked::Rejected(_) => at_end(packet),
         Walked::Complete(seen) => {
             let echo = seen.echo;

@@ -1,2 +1,1 @@
 pub mod Locators
-pub mod Sets

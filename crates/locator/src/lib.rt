@@ -1,15 +1,9 @@
-// The locators of a LOCATOR_SET and refusal 6. Depends on address, octets, boolean, refusal.
+// A locator of a LOCATOR_SET, and what refusal 6 refuses of it. Depends on address, octets, boolean.
 use address::Address;
-use refusal::Refusal;
 ghost use mathlib.Core.Path.{_≡_};
-ghost use Prim.Native.Nat.{_+_, _*_, _≤_, _<_};
-ghost use mathlib.Core.Bool.{cond};
-ghost use lib.Dec.{eqb};
+ghost use Prim.Native.Nat.{_+_, _≤_, _<_};
 ghost use lib.ListN.{length};
-ghost use Rattle.octets.specs.Records.{some};
-ghost use Rattle.address.specs.Rules.{sameAddress};
 ghost use Rattle.locator.specs.Locators.{illForm, spiAt, locatorStepAt};
-ghost use Rattle.locator.specs.Sets.{mark, blanks, addresses, refusedSet, setOf};
 
 // A locator as a set lists it. `kind` is its locator type, and `spi` the SPI of a type 1 locator, 0 for type 0.
 pub struct ListedLocator {
@@ -25,18 +19,6 @@ pub struct ListedLocator {
 pub enum LocatorStep {
     Listed(ListedLocator, usize),
     Illegal,
-}
-
-// Refusal 6, or how many locators a set holds.
-pub enum SetVerdict {
-    RefusedSet(Refusal),
-    Holds(usize),
-}
-
-// What is read of a set. The array stands beside the enum: the locators that the set holds come first, in order, and blanks after them.
-pub struct LocatorSet {
-    pub verdict: SetVerdict,
-    pub listed: [ListedLocator; 8],
 }
 
 // A byte as a wider number, with the bound that keeps a place computed from it from wrapping.
@@ -77,11 +59,13 @@ fn spi_at(s: &[u8], at: usize) -> u32
     }
 }
 
-// One step of the walk over a set.
-fn locator_step(s: &[u8], at: usize) -> LocatorStep
-    requires { ⌜ at ≤ length (now s) ⌝ }
+// One step of the walk over a set: what stands at `at`, for every place of any slice.
+pub fn locator_step(s: &[u8], at: usize) -> LocatorStep
     ensures { λ r. ⌜ r ≡ locatorStepAt (now (s .entry)) at ⌝ }
 {
+    if s.len() <= at {
+        return LocatorStep::Illegal;
+    }
     if s.len() - at < 24 {
         return LocatorStep::Illegal;
     }
@@ -102,98 +86,4 @@ fn locator_step(s: &[u8], at: usize) -> LocatorStep
         preferred: s[at + 3] % 2 == 1,
     };
     LocatorStep::Listed(listed, at + 8 + 4 * byte(s[at + 2]))
-}
-
-// The address is among the first `count` that the arrays hold.
-fn held(highs: &[u64; 8], lows: &[u64; 8], count: usize, address: Address) -> bool
-    requires { ⌜ count ≤ 8 ⌝ }
-    ensures { λ r. ⌜ r ≡ some (sameAddress address) (addresses count (now (highs .entry)) (now (lows .entry))) ⌝ }
-{
-    let mut k = count;
-    while 0 < k {
-        k -= 1;
-        let other = Address {
-            high: highs[k],
-            low: lows[k],
-        };
-        if address::same(address, other) {
-            return true;
-        }
-    }
-    false
-}
-
-// A locator with P counts 1.
-fn mark_of(preferred: bool) -> usize
-    ensures { λ r. ⌜ r ≡ mark preferred ⌝ }
-{
-    if preferred { 1 } else { 0 }
-}
-
-// An array that lists no locator.
-pub fn no_locators() -> [ListedLocator; 8]
-    ensures { λ r. ⌜ r ≡ blanks ⌝ }
-{
-    let address = Address { high: 0, low: 0 };
-    let blank = ListedLocator {
-        address,
-        lifetime: 0,
-        spi: 0,
-        traffic: 0,
-        kind: 0,
-        preferred: false,
-    };
-    [blank; 8]
-}
-
-// Refusal 6.
-fn refuse_set() -> LocatorSet
-    ensures { λ r. ⌜ r ≡ refusedSet ⌝ }
-{
-    let listed = no_locators();
-    LocatorSet {
-        verdict: SetVerdict::RefusedSet(Refusal::BadLocatorSet),
-        listed,
-    }
-}
-
-// The locators of a set, in one pass over its bytes, or refusal 6.
-pub fn read_set(s: &[u8]) -> LocatorSet
-    ensures { λ r. ⌜ r ≡ setOf (now (s .entry)) ⌝ }
-{
-    if s.len() == 0 {
-        return refuse_set();
-    }
-    let mut listed = no_locators();
-    let mut highs = [0u64; 8];
-    let mut lows = [0u64; 8];
-    let mut count: usize = 0;
-    let mut marked: usize = 0;
-    let mut at: usize = 0;
-    while at < s.len() {
-        if count == 8 {
-            return refuse_set();
-        }
-        let step = locator_step(s, at);
-        let LocatorStep::Listed(locator, next) = step else {
-            return refuse_set();
-        };
-        let address = locator.address;
-        if held(&highs, &lows, count, address) {
-            return refuse_set();
-        }
-        listed[count] = locator;
-        highs[count] = address.high;
-        lows[count] = address.low;
-        count += 1;
-        marked += mark_of(locator.preferred);
-        at = next;
-    }
-    if 1 < marked {
-        return refuse_set();
-    }
-    LocatorSet {
-        verdict: SetVerdict::Holds(count),
-        listed,
-    }
 }

@@ -9,16 +9,16 @@ use Rattle.refusal.specs.declared.Refusal.{Refusal}
 use Rattle.refusal.specs.Table.{refusal}
 use Rattle.octets.specs.Records.{some}
 use Rattle.parameter.specs.Types.{espInfo, locatorSet}
-use Rattle.parameter.specs.Parameters.{parameters}
-use Rattle.parameter.specs.Survey.{surveyOf, refusal3, refusal4}
-use Rattle.parameter.specs.declared.Survey.{Survey}
-use Rattle.parameter.proofs.Within.{lies-within}
+use Rattle.frame.specs.Parameters.{parameters}
+use Rattle.frame.specs.Survey.{surveyOf, refusal3, refusal4}
+use Rattle.frame.specs.declared.Survey.{Survey}
+use Rattle.frame.proofs.Within.{lies-within}
 use Rattle.locator.specs.declared.ListedLocator.{ListedLocator}
-use Rattle.locator.specs.declared.LocatorSet.{LocatorSet}
-use Rattle.locator.specs.declared.SetVerdict.{SetVerdict}
-use Rattle.locator.specs.declared.SetVerdict.the-variants.{RefusedSet, Holds}
+use Rattle.locator_set.specs.declared.LocatorSet.{LocatorSet}
+use Rattle.locator_set.specs.declared.SetVerdict.{SetVerdict}
+use Rattle.locator_set.specs.declared.SetVerdict.the-variants.{RefusedSet, Holds}
 use Rattle.locator.specs.Locators.{places}
-use Rattle.locator.specs.Sets.{blanks, listedOf, padded, refusal6, refusedSet, setOf}
+use Rattle.locator_set.specs.Sets.{blanks, listedOf, padded, refusal6, refusedSet, setOf}
 use Rattle.packet.specs.declared.Message.the-variants.{Move}
 use Rattle.packet.specs.declared.Reading.{Reading}
 use Rattle.packet.specs.Kinds.{isMove, isReply}

@@ -9,8 +9,8 @@ use lib.ListN.{length}
 use borrow.Author.Tests.{eqb-true, not-false}
 use Rattle.boolean.proofs.Laws.{and-true-left, and-true-right}
 use Rattle.parameter.specs.Types.{espInfo, seq, wrongLength}
-use Rattle.parameter.specs.Survey.{surveyOf, refusal3}
-use Rattle.parameter.proofs.Within.{lies-within, length-right}
+use Rattle.frame.specs.Survey.{surveyOf, refusal3}
+use Rattle.frame.proofs.Within.{lies-within, length-right}
 use Rattle.packet.specs.Kinds.{exactlyOne, isMove}
 
 module _ (s : List ℕ) (h : refusal3 s ≡ false) where

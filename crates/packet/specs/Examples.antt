@@ -8,11 +8,12 @@ use Rattle.refusal.specs.Table.{refusal}
 use Rattle.octets.specs.Records.{records, some}
 use Rattle.address.specs.Rules.{legal}
 use Rattle.parameter.specs.Types.{espInfo, locatorSet, seq, ack, echoRequestSigned, echoResponseSigned, refusedType, wrongLength}
-use Rattle.parameter.specs.Parameters.{takes, falls}
-use Rattle.parameter.specs.Survey.{occurs}
+use Rattle.parameter.specs.Parameters.{takes}
+use Rattle.frame.specs.Parameters.{falls}
+use Rattle.frame.specs.Survey.{occurs}
 use Rattle.locator.specs.declared.ListedLocator.{ListedLocator}
 use Rattle.locator.specs.Locators.{illForm}
-use Rattle.locator.specs.Sets.{twice, marks, unfit, padded}
+use Rattle.locator_set.specs.Sets.{twice, marks, unfit, padded}
 use Rattle.packet.specs.declared.EchoResponse.the-variants.{Absent, Nonce, OtherLength}
 use Rattle.packet.specs.declared.Message.{Message}
 use Rattle.packet.specs.declared.Message.the-variants.{Refused, Move, Reply}

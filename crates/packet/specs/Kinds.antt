@@ -1,8 +1,8 @@
 -- "Accepted messages are of two kinds." Move and Reply are document 01's terms.
 use mathlib.Core.Bool.{Bool, _&&_}
 use lib.Dec.{ltb, eqb}
-use Rattle.parameter.specs.declared.Occurrence.{Occurrence}
-use Rattle.parameter.specs.declared.Survey.{Survey}
+use Rattle.frame.specs.declared.Occurrence.{Occurrence}
+use Rattle.frame.specs.declared.Survey.{Survey}
 
 abbrev pub exactlyOne : Occurrence → Bool
 exactlyOne seen = eqb (seen .times) 1

@@ -7,11 +7,11 @@ use lib.ListN.{length, take, drop}
 use Rattle.refusal.specs.declared.Refusal.{Refusal}
 use Rattle.refusal.specs.Table.{refusal}
 use Rattle.octets.specs.Numbers.{numberAt}
-use Rattle.parameter.specs.Survey.{surveyOf, refusal3, refusal4}
-use Rattle.parameter.specs.declared.Occurrence.{Occurrence}
-use Rattle.parameter.specs.declared.Survey.{Survey}
+use Rattle.frame.specs.Survey.{surveyOf, refusal3, refusal4}
+use Rattle.frame.specs.declared.Occurrence.{Occurrence}
+use Rattle.frame.specs.declared.Survey.{Survey}
 use Rattle.locator.specs.Locators.{places}
-use Rattle.locator.specs.Sets.{blanks, listedOf, padded, refusal6}
+use Rattle.locator_set.specs.Sets.{blanks, listedOf, padded, refusal6}
 use Rattle.packet.specs.Kinds.{isMove, isReply}
 use Rattle.packet.specs.declared.EchoResponse.{EchoResponse}
 use Rattle.packet.specs.declared.EchoResponse.the-variants.{Absent, Nonce, OtherLength}

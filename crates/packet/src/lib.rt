@@ -1,10 +1,10 @@
 // What a packet says: refusals 3 to 6, or a Move or a Reply with all that the layers above ask of it, so that none of them reads packet bytes.
-// Depends on parameter, locator, octets, boolean, refusal.
+// Depends on frame, locator_set, locator, octets, boolean, refusal.
+use frame::Occurrence;
+use frame::Survey;
+use frame::Walked;
 use locator::ListedLocator;
-use locator::SetVerdict;
-use parameter::Occurrence;
-use parameter::Survey;
-use parameter::Walked;
+use locator_set::SetVerdict;
 use refusal::Refusal;
 ghost use mathlib.Core.Path.{_≡_};
 ghost use Prim.Native.Nat.{_+_, _≤_};
@@ -46,7 +46,7 @@ pub struct Reading {
 fn refuse(refusal: Refusal) -> Reading
     ensures { λ r. ⌜ r ≡ refusing refusal ⌝ }
 {
-    let listed = locator::no_locators();
+    let listed = locator_set::no_locators();
     Reading {
         message: Message::Refused(refusal),
         listed,
@@ -94,7 +94,7 @@ fn read_move(packet: &[u8], seen: Survey) -> Reading
     let set = seen.set;
     let start = set.body;
     let end = start + set.len;
-    let read = locator::read_set(&packet[start..end]);
+    let read = locator_set::read_set(&packet[start..end]);
     let verdict = read.verdict;
     match verdict {
         SetVerdict::RefusedSet(refusal) => refuse(refusal),
@@ -150,7 +150,7 @@ fn read_kind(packet: &[u8], seen: Survey) -> Reading
     if is_reply(seen) {
         let occurrence = seen.echo;
         let echo = echo_of(packet, occurrence);
-        let listed = locator::no_locators();
+        let listed = locator_set::no_locators();
         return Reading {
             message: Message::Reply(echo),
             listed,
@@ -163,7 +163,7 @@ fn read_kind(packet: &[u8], seen: Survey) -> Reading
 pub fn read_packet(packet: &[u8]) -> Reading
     ensures { λ r. ⌜ r ≡ readingOf (now (packet .entry)) ⌝ }
 {
-    match parameter::walk(packet) {
+    match frame::walk(packet) {
         Walked::Rejected(refusal) => refuse(refusal),
         Walked::Complete(seen) => {
             if seen.unknown != 0 {

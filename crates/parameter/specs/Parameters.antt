@@ -1,13 +1,11 @@
 -- "Parameters: type (2 bytes), length L (2 bytes), L bytes, padding."
 use Prim.Native.Nat.{ℕ, _+_, _-_, _%_}
-use mathlib.Core.Bool.{Bool, false, cond, _||_}
-use mathlib.Core.List.{List, [], _∷_}
+use mathlib.Core.Bool.{Bool, cond, _||_}
+use mathlib.Core.List.{List}
 use lib.Dec.{ltb, leb}
 use lib.ListN.{length}
 use Rattle.refusal.specs.Table.{refusal}
 use Rattle.octets.specs.Numbers.{numberAt}
-use Rattle.octets.specs.Records.{records, some}
-use Rattle.parameter.specs.Header.{headerSize}
 use Rattle.parameter.specs.Types.{wrongLength}
 use Rattle.parameter.specs.declared.Parameter.{Parameter}
 use Rattle.parameter.specs.declared.Step.{Step}
@@ -26,10 +24,6 @@ parameterAt s at = record {
   next = at + takes (numberAt s (at + 2) 2);
 }
 
--- the packet's parameters in order, from the header's end. The last may run past the packet's end
-abbrev pub parameters : List ℕ → List Parameter
-parameters s = records (parameterAt s) (λ (p : Parameter). p .next) (length s) (length s) headerSize
-
 -- "parameter past the end"
 abbrev pub pastEnd : List ℕ → Parameter → Bool
 pastEnd s p = ltb (length s) (p .next)
@@ -37,15 +31,6 @@ pastEnd s p = ltb (length s) (p .next)
 -- "wrong L for 65, 385, 449"
 abbrev pub wrong : Parameter → Bool
 wrong p = wrongLength (p .kind) (p .len)
-
--- "Types never fall along the packet": some type is below the one before it, the first below `last`
-unfoldable pub falls : (last : ℕ) → List Parameter → Bool
-falls last [] = false
-falls last (p ∷ ps) = ltb (p .kind) last || falls (p .kind) ps
-
--- refusal 3 by the parameters ps, which follow one of type `last`
-abbrev pub illFormed : List ℕ → (last : ℕ) → List Parameter → Bool
-illFormed s last ps = some (pastEnd s) ps || (falls last ps || some wrong ps)
 
 -- one step of the walk: at the packet's end or past it the end; refusal 3 where the parameter at `at` is past the end or has a
 -- wrong L; else the parameter

@@ -1,10 +1,10 @@
 -- `echo::echo_place` meets its contract: each answer is the law of the tests that led to it. Assumes nothing.
 use mathlib.Core.Path.{ap, sym, _∙_}
 use native.Mathlib.Omega.{arith}
-use Rattle.parameter.specs.declared.Survey.{Survey}
+use Rattle.frame.specs.declared.Survey.{Survey}
 use Rattle.parameter.specs.Types.{echoResponseSigned}
-use Rattle.parameter.proofs.Answers.{walk-rejected, walk-complete}
-use Rattle.parameter.proofs.Within.{lies-within}
+use Rattle.frame.proofs.Answers.{walk-rejected, walk-complete}
+use Rattle.frame.proofs.Within.{lies-within}
 use Rattle.echo.specs.declared.Place.{Place}
 use Rattle.echo.specs.Parts.{nonceSize, echoes}
 use Rattle.echo.proofs.Places.{place-short, place-refused, place-missed, place-found}

@@ -1,11 +1,8 @@
 -- `locator::locator_step` meets its contract: each answer is the law of the tests that led to it. Assumes nothing.
-use native.Mathlib.Omega.{arith}
 use mathlib.Core.Path.{_≡_, ap, sym, _∙_}
-use Prim.Native.Nat.{ℕ, _+_, _*_, _%_}
-use lib.Dec.{eqb}
-use lib.ListN.{getD}
+use Prim.Native.Nat.{ℕ, _+_, _*_}
+use native.Mathlib.Omega.{arith}
 use borrow.Author.Tests.{not-true, not-false}
-use Rattle.address.specs.declared.Address.{Address}
 use Rattle.address.specs.Rules.{addressAt, legal}
 use Rattle.locator.specs.Locators.{trafficAt, kindAt, preferredAt, listedAddress}
 use Rattle.locator.specs.declared.LocatorStep.the-variants.{Listed}
@@ -14,94 +11,97 @@ use borrow.Author.Needs.{needs}
 use Rattle.locator.proofs.locator_step.Statement.{statement}
 use Rattle.locator.proofs.locator_step.Tie as tie
 
-sub-if1 : tie.Need-sub-if1
-sub-if1 c = omega arith
-
 returns : tie.Need-returns
-returns c = let a = c .before .before .args in step-short (a .s .now) (a .at) (c .if1 .taken)
+returns c = let a = c .before .before .args in step-short (a .s .now) (a .at) (omega arith)
+
+sub-if2 : tie.Need-sub-if2
+sub-if2 c = search needs
+
+returns-2 : tie.Need-returns-2
+returns-2 c = let a = c .before .before .before .args in step-short (a .s .now) (a .at) (c .if2 .taken)
 
 ill-form-requires : tie.Need-ill-form-requires
 ill-form-requires c κs = search needs
 
-returns-2 : tie.Need-returns-2
-returns-2 c = let a = c .before .before .before .before .args in step-ill (a .s .now) (a .at) (sym (c .before .ill-form .ensures) ∙ c .if2 .taken)
+returns-3 : tie.Need-returns-3
+returns-3 c = let a = c .before .before .before .before .before .args in step-ill (a .s .now) (a .at) (sym (c .before .ill-form .ensures) ∙ c .if3 .taken)
 
 add-place : tie.Need-add-place
-add-place c = omega arith
+add-place c = search needs
 
 add-byte : tie.Need-add-byte
-add-byte c = omega arith
+add-byte c = search needs
 
 shared-slice-read-byte : tie.Need-shared-slice-read-byte
-shared-slice-read-byte c = omega arith
+shared-slice-read-byte c = search needs
 
 byte-requires : tie.Need-byte-requires
-byte-requires c κs = tt
+byte-requires c κs = search needs
 
 mul-place : tie.Need-mul-place
-mul-place c = omega arith
+mul-place c = search needs
 
 add-place-2 : tie.Need-add-place-2
-add-place-2 c = omega arith
+add-place-2 c = search needs
 
 address-at-requires : tie.Need-address-at-requires
-address-at-requires c κs = tt
+address-at-requires c κs = search needs
 
 is-legal-requires : tie.Need-is-legal-requires
-is-legal-requires c κs = tt
+is-legal-requires c κs = search needs
 
-returns-3 : tie.Need-returns-3
-returns-3 c =
-    let a = c .before .before .before .before .before .before .before .before .before .args in
+returns-4 : tie.Need-returns-4
+returns-4 c =
+    let a = c .before .before .before .before .before .before .before .before .before .before .args in
     let address : c .before .before .address-at .result ≡ listedAddress (a .s .now) (a .at) =
     c .before .before .address-at .ensures ∙ ap (λ (k : ℕ). addressAt (a .s .now) (a .at + 8 + 4 * k)) (c .before .before .before .byte .ensures .0) in
-    step-illegal (a .s .now) (a .at) (sym (ap legal address) ∙ (sym (c .before .is-legal .ensures) ∙ not-true _ (c .if3 .taken)))
+    step-illegal (a .s .now) (a .at) (sym (ap legal address) ∙ (sym (c .before .is-legal .ensures) ∙ not-true _ (c .if4 .taken)))
 
 add-u32-at : tie.Need-add-u32-at
-add-u32-at c = omega arith
+add-u32-at c = search needs
 
 u32-at-requires : tie.Need-u32-at-requires
-u32-at-requires c κs = tt
+u32-at-requires c κs = search needs
 
 spi-at-requires : tie.Need-spi-at-requires
 spi-at-requires c κs = search needs
 
 shared-slice-read-t12 : tie.Need-shared-slice-read-t12
-shared-slice-read-t12 c = omega arith
+shared-slice-read-t12 c = search needs
 
 add-t6 : tie.Need-add-t6
-add-t6 c = omega arith
+add-t6 c = search needs
 
 shared-slice-read-t19 : tie.Need-shared-slice-read-t19
-shared-slice-read-t19 c = omega arith
+shared-slice-read-t19 c = search needs
 
-add-t7 : tie.Need-add-t7
-add-t7 c = omega arith
+add-t8 : tie.Need-add-t8
+add-t8 c = search needs
 
 shared-slice-read-t21 : tie.Need-shared-slice-read-t21
-shared-slice-read-t21 c = omega arith
+shared-slice-read-t21 c = search needs
 
 add-t10 : tie.Need-add-t10
-add-t10 c = omega arith
+add-t10 c = search needs
 
 add-byte-2 : tie.Need-add-byte-2
-add-byte-2 c = omega arith
+add-byte-2 c = search needs
 
 shared-slice-read-byte-2 : tie.Need-shared-slice-read-byte-2
-shared-slice-read-byte-2 c = omega arith
+shared-slice-read-byte-2 c = search needs
 
 byte-requires-2 : tie.Need-byte-requires-2
-byte-requires-2 c κs = tt
+byte-requires-2 c κs = search needs
 
-mul-t7 : tie.Need-mul-t7
-mul-t7 c = omega arith
+mul-t8 : tie.Need-mul-t8
+mul-t8 c = search needs
 
 add-t24 : tie.Need-add-t24
-add-t24 c = omega arith
+add-t24 c = search needs
 
-returns-4 : tie.Need-returns-4
-returns-4 c =
-    let a = c .before .before .before .before .before .before .before .before .before .before .before .before .before .before .before .before .args in
+returns-5 : tie.Need-returns-5
+returns-5 c =
+    let a = c .before .before .before .before .before .before .before .before .before .before .before .before .before .before .before .before .before .args in
     let s = a .s .now in
     let address : c .before .before .before .before .before .before .before .before .before .address-at .result ≡ listedAddress s (a .at) =
     c .before .before .before .before .before .before .before .before .before .address-at .ensures ∙ ap (λ (k : ℕ). addressAt s (a .at + 8 + 4 * k)) (c .before .before .before .before .before .before .before .before .before .before .byte .ensures .0) in
@@ -116,17 +116,18 @@ returns-4 c =
       preferred = preferredAt s (a .at);
     })
     (a .at + 8 + 4 * c .byte2 .ensures .0 i))
-    ∙ step-listed s (a .at) (sym (c .before .before .before .before .before .before .before .before .before .before .before .before .before .ill-form .ensures) ∙ c .before .before .before .before .before .before .before .before .before .before .before .before .if2 .left)
-    (sym (ap legal address) ∙ (sym (c .before .before .before .before .before .before .before .before .is-legal .ensures) ∙ not-false _ (c .before .before .before .before .before .before .before .if3 .left)))
+    ∙ step-listed s (a .at) (sym (c .before .before .before .before .before .before .before .before .before .before .before .before .before .ill-form .ensures) ∙ c .before .before .before .before .before .before .before .before .before .before .before .before .if3 .left)
+    (sym (ap legal address) ∙ (sym (c .before .before .before .before .before .before .before .before .is-legal .ensures) ∙ not-false _ (c .before .before .before .before .before .before .before .if4 .left)))
 
 pub locator-step-spec : {M : Type 1} → statement M
 locator-step-spec =
     tie.close
     (tie.spec
-    sub-if1
     returns
-    ill-form-requires
+    sub-if2
     returns-2
+    ill-form-requires
+    returns-3
     add-place
     add-byte
     shared-slice-read-byte
@@ -135,19 +136,19 @@ locator-step-spec =
     add-place-2
     address-at-requires
     is-legal-requires
-    returns-3
+    returns-4
     add-u32-at
     u32-at-requires
     spi-at-requires
     shared-slice-read-t12
     add-t6
     shared-slice-read-t19
-    add-t7
+    add-t8
     shared-slice-read-t21
     add-t10
     add-byte-2
     shared-slice-read-byte-2
     byte-requires-2
-    mul-t7
+    mul-t8
     add-t24
-    returns-4)
+    returns-5)

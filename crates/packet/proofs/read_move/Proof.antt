@@ -3,7 +3,7 @@ use mathlib.Core.Path.{_≡_, ap, _∙_}
 use Prim.Native.Nat.{ℕ, _+_, _-_}
 use native.Mathlib.Omega.{arith}
 use lib.ListN.{take, drop}
-use Rattle.locator.specs.Sets.{setOf}
+use Rattle.locator_set.specs.Sets.{setOf}
 use Rattle.packet.specs.declared.Message.the-variants.{Move}
 use Rattle.packet.specs.declared.MoveFields.{MoveFields}
 use Rattle.packet.proofs.Choices.{move-refused, move-listed}

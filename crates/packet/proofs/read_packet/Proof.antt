@@ -1,6 +1,6 @@
 -- `packet::read_packet` meets its contract: each answer is the law of the tests that led to it. Assumes nothing.
 use mathlib.Core.Path.{_∙_}
-use Rattle.parameter.proofs.Answers.{walk-rejected, walk-complete}
+use Rattle.frame.proofs.Answers.{walk-rejected, walk-complete}
 use Rattle.packet.proofs.Choices.{read-rejected, read-unknown, read-known, parts-within}
 use borrow.Author.Needs.{needs}
 use Rattle.packet.proofs.read_packet.Statement.{statement}

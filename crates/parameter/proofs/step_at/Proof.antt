@@ -1,7 +1,7 @@
 -- `parameter::step_at` meets its contract: each answer is the law of the tests that led to it. Assumes nothing.
 use mathlib.Core.Path.{sym, _∙_}
 use native.Mathlib.Omega.{arith}
-use Rattle.parameter.proofs.Turns.{step-end, step-past, step-wrong, step-found}
+use Rattle.parameter.proofs.Steps.{step-end, step-past, step-wrong, step-found}
 use Rattle.parameter.proofs.step_at.Statement.{statement}
 use Rattle.parameter.proofs.step_at.Tie as tie
 

@@ -1,7 +1,7 @@
--- `parameter::count` meets its contract. Assumes nothing.
+-- `frame::count` meets its contract. Assumes nothing.
 use borrow.Author.Tests.{eq-eqb, ne-eqb}
-use Rattle.parameter.proofs.count.Statement.{statement}
-use Rattle.parameter.proofs.count.Tie as tie
+use Rattle.frame.proofs.count.Statement.{statement}
+use Rattle.frame.proofs.count.Tie as tie
 
 once-more-requires : tie.Need-once-more-requires
 once-more-requires c κs = tt

@@ -5,10 +5,10 @@ use mathlib.Core.List.{List}
 use Prim.Native.Nat.{ℕ}
 use Rattle.refusal.specs.declared.Refusal.{Refusal}
 use Rattle.refusal.specs.Table.{refusal}
-use Rattle.parameter.specs.declared.Survey.{Survey}
-use Rattle.parameter.specs.declared.Walked.{Walked}
-use Rattle.parameter.specs.declared.Walked.the-variants.{Rejected, Complete}
-use Rattle.parameter.specs.Survey.{surveyOf, refusal3, walkOf}
+use Rattle.frame.specs.declared.Survey.{Survey}
+use Rattle.frame.specs.declared.Walked.{Walked}
+use Rattle.frame.specs.declared.Walked.the-variants.{Rejected, Complete}
+use Rattle.frame.specs.Survey.{surveyOf, refusal3, walkOf}
 
 rejected : (b : Bool) (z : Survey) {r : Refusal} → cond b (Rejected (refusal 3)) (Complete z) ≡ Rejected r → (b ≡ true) × (r ≡ refusal 3)
 rejected true z e = (refl, cc)

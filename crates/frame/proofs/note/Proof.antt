@@ -1,6 +1,6 @@
--- `parameter::note` meets its contract, field by field. Assumes nothing.
-use Rattle.parameter.proofs.note.Statement.{statement}
-use Rattle.parameter.proofs.note.Tie as tie
+-- `frame::note` meets its contract, field by field. Assumes nothing.
+use Rattle.frame.proofs.note.Statement.{statement}
+use Rattle.frame.proofs.note.Tie as tie
 
 note-type-requires : tie.Need-note-type-requires
 note-type-requires c κs = tt

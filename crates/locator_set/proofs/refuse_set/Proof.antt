@@ -1,9 +1,9 @@
--- `locator::refuse_set` meets its contract. Assumes nothing.
+-- `locator_set::refuse_set` meets its contract. Assumes nothing.
 use Rattle.refusal.specs.Table.{refusal}
-use Rattle.locator.specs.declared.SetVerdict.the-variants.{RefusedSet}
+use Rattle.locator_set.specs.declared.SetVerdict.the-variants.{RefusedSet}
 use borrow.Author.Needs.{needs}
-use Rattle.locator.proofs.refuse_set.Statement.{statement}
-use Rattle.locator.proofs.refuse_set.Tie as tie
+use Rattle.locator_set.proofs.refuse_set.Statement.{statement}
+use Rattle.locator_set.proofs.refuse_set.Tie as tie
 
 no-locators-requires : tie.Need-no-locators-requires
 no-locators-requires c κs = search needs

@@ -1,7 +1,7 @@
--- `parameter::note_type` meets its contract. Assumes nothing.
+-- `frame::note_type` meets its contract. Assumes nothing.
 use mathlib.Core.Path.{sym, _∙_}
-use Rattle.parameter.proofs.note_type.Statement.{statement}
-use Rattle.parameter.proofs.note_type.Tie as tie
+use Rattle.frame.proofs.note_type.Statement.{statement}
+use Rattle.frame.proofs.note_type.Tie as tie
 
 refused-type-requires : tie.Need-refused-type-requires
 refused-type-requires c κs = tt

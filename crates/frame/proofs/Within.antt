@@ -9,12 +9,13 @@ use lib.ListN.{length}
 use borrow.Author.Tests.{ltb-false, eqb-true, eqb-false}
 use Rattle.boolean.proofs.Laws.{or-false-left, or-false-right}
 use Rattle.octets.specs.Records.{records, some}
 use Rattle.parameter.specs.declared.Parameter.{Parameter}
-use Rattle.parameter.specs.declared.Occurrence.{Occurrence}
-use Rattle.parameter.specs.Header.{headerSize, headerHolds}
+use Rattle.frame.specs.declared.Occurrence.{Occurrence}
+use Rattle.frame.specs.Header.{headerSize, headerHolds}
 use Rattle.parameter.specs.Types.{wrongLength}
-use Rattle.parameter.specs.Parameters.{parameterAt, parameters, pastEnd, falls, wrong, illFormed}
-use Rattle.parameter.specs.Survey.{never, counted, occurs, refusal3}
+use Rattle.parameter.specs.Parameters.{parameterAt, pastEnd, wrong}
+use Rattle.frame.specs.Parameters.{parameters, falls, illFormed}
+use Rattle.frame.specs.Survey.{never, counted, occurs, refusal3}
 
 -- the parameters from a place on
 abbrev from : List ℕ → (steps at : ℕ) → List Parameter

@@ -1,11 +1,11 @@
--- `parameter::header_holds` meets its contract: each test that fails settles it, and all hold at the end. Assumes nothing.
+-- `frame::header_holds` meets its contract: each test that fails settles it, and all hold at the end. Assumes nothing.
 use native.Mathlib.Omega.{arith}
 use mathlib.Core.Path.{refl}
 use mathlib.Core.Bool.{and-false}
 use borrow.Author.Tests.{eq-eqb, ne-eqb, le-leb, lt-leb}
 use Rattle.boolean.proofs.Laws.{and-step}
-use Rattle.parameter.proofs.header_holds.Statement.{statement}
-use Rattle.parameter.proofs.header_holds.Tie as tie
+use Rattle.frame.proofs.header_holds.Statement.{statement}
+use Rattle.frame.proofs.header_holds.Tie as tie
 
 returns : tie.Need-returns
 returns c = simp (lt-leb _ _ (c .if1 .taken))

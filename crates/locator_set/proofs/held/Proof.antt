@@ -1,13 +1,13 @@
--- `locator::held` meets its contract. The loop's invariant: the addresses that are left decide. Assumes nothing.
+-- `locator_set::held` meets its contract. The loop's invariant: the addresses that are left decide. Assumes nothing.
 use mathlib.Core.Path.{_≡_, refl, sym, _∙_}
 use Prim.Native.Nat.{_≤_}
 use native.Mathlib.Omega.{arith}
 use Rattle.octets.specs.Records.{some}
 use Rattle.address.specs.Rules.{sameAddress}
-use Rattle.locator.specs.Sets.{addresses}
-use Rattle.locator.proofs.Entries.{held-hit, held-miss, held-none}
-use Rattle.locator.proofs.held.Statement.{statement}
-use Rattle.locator.proofs.held.Tie as tie
+use Rattle.locator_set.specs.Sets.{addresses}
+use Rattle.locator_set.proofs.Earlier.{held-hit, held-miss, held-none}
+use Rattle.locator_set.proofs.held.Statement.{statement}
+use Rattle.locator_set.proofs.held.Tie as tie
 
 abbrev Inv-loop : tie.InvT-loop
 Inv-loop highs lows count address k₀ k = (k ≤ count) × (some (sameAddress address) (addresses k highs lows) ≡ some (sameAddress address) (addresses count highs lows))

@@ -1,7 +1,7 @@
--- `parameter::once_more` meets its contract. Assumes nothing.
+-- `frame::once_more` meets its contract. Assumes nothing.
 use borrow.Author.Tests.{eq-eqb, ne-eqb}
-use Rattle.parameter.proofs.once_more.Statement.{statement}
-use Rattle.parameter.proofs.once_more.Tie as tie
+use Rattle.frame.proofs.once_more.Statement.{statement}
+use Rattle.frame.proofs.once_more.Tie as tie
 
 returns : tie.Need-returns
 returns c = rw (eq-eqb _ _ (c .if1 .taken))

@@ -1,13 +1,13 @@
--- `locator::read_set` meets its contract. The loop's invariant: the locators from `at` on, after those that were read, give the set's answer.
+-- `locator_set::read_set` meets its contract. The loop's invariant: the locators from `at` on, after those that were read, give the set's answer.
 -- The measure is what is left of the set. Assumes nothing.
 use mathlib.Core.Path.{_≡_, refl, sym, _∙_, ap}
 use Prim.Native.Nat.{ℕ, _-_}
 use native.Mathlib.Omega.{arith}
 use lib.ListN.{length}
 use borrow.Author.Needs.{needs}
-use Rattle.locator.proofs.Passes.{Passing, mark-few, set-empty, set-starts, set-many, set-illegal, set-twice, set-nearer, set-goes, set-marked, set-ends}
-use Rattle.locator.proofs.read_set.Statement.{statement}
-use Rattle.locator.proofs.read_set.Tie as tie
+use Rattle.locator_set.proofs.Passes.{Passing, mark-few, set-empty, set-starts, set-many, set-illegal, set-twice, set-nearer, set-goes, set-marked, set-ends}
+use Rattle.locator_set.proofs.read_set.Statement.{statement}
+use Rattle.locator_set.proofs.read_set.Tie as tie
 
 abbrev Inv-loop : tie.InvT-loop
 Inv-loop s listed₀ highs₀ lows₀ count₀ marked₀ at₀ listed highs lows count marked at = Passing s listed highs lows count marked at
@@ -34,7 +34,7 @@ returns-2 : tie.Need-returns-2 Inv-loop μ-loop
 returns-2 c = c .refuse-set2 .ensures ∙ set-many _ _ _ _ _ _ _ (c .before .before .before .loop .inv) (c .before .before .loop-test .taken) (c .before .if2 .taken)
 
 locator-step-requires : tie.Need-locator-step-requires Inv-loop μ-loop
-locator-step-requires c κs = c .before .before .loop .inv .within
+locator-step-requires c κs = tt
 
 enum-known-step : tie.Need-enum-known-step Inv-loop μ-loop
 enum-known-step c = search needs

@@ -8,11 +8,11 @@ use Rattle.refusal.specs.Table.{refusal}
 use Rattle.octets.specs.Records.{some}
 use Rattle.address.specs.Rules.{sameAddress}
 use Rattle.address.specs.declared.Address.{Address}
 use Rattle.locator.specs.Locators.{places, preferredAt, listedAddress, illegalAt, listedAt}
 use Rattle.locator.specs.declared.ListedLocator.{ListedLocator}
-use Rattle.locator.specs.declared.SetVerdict.{SetVerdict}
-use Rattle.locator.specs.declared.SetVerdict.the-variants.{RefusedSet, Holds}
-use Rattle.locator.specs.declared.LocatorSet.{LocatorSet}
+use Rattle.locator_set.specs.declared.SetVerdict.{SetVerdict}
+use Rattle.locator_set.specs.declared.SetVerdict.the-variants.{RefusedSet, Holds}
+use Rattle.locator_set.specs.declared.LocatorSet.{LocatorSet}
 
 -- "1 to 8 locators in a set"
 abbrev pub setLimit : ℕ

@@ -14,14 +14,15 @@ use Rattle.octets.specs.Records.{records, some}
 use Rattle.octets.proofs.Runs.{records-more, records-none}
 use Rattle.address.specs.declared.Address.{Address}
 use Rattle.address.specs.Rules.{sameAddress}
 use Rattle.locator.specs.declared.ListedLocator.{ListedLocator}
-use Rattle.locator.specs.declared.LocatorSet.{LocatorSet}
-use Rattle.locator.specs.declared.SetVerdict.the-variants.{Holds}
+use Rattle.locator_set.specs.declared.LocatorSet.{LocatorSet}
+use Rattle.locator_set.specs.declared.SetVerdict.the-variants.{Holds}
 use Rattle.locator.specs.declared.LocatorStep.{LocatorStep}
 use Rattle.locator.specs.declared.LocatorStep.the-variants.{Listed, Illegal}
 use Rattle.locator.specs.Locators.{places, preferredAt, listedAddress, nextLocator, illegalAt, listedAt, locatorStepAt}
-use Rattle.locator.specs.Sets.{setLimit, twice, mark, marks, unfit, refusal6, blanks, listedOf, padded, refusedSet, setOf, addresses}
-use Rattle.locator.proofs.Entries.{lies-within, is-listed, is-illegal, addresses-store}
+use Rattle.locator_set.specs.Sets.{setLimit, twice, mark, marks, unfit, refusal6, blanks, listedOf, padded, refusedSet, setOf, addresses}
+use Rattle.locator.proofs.Entries.{lies-within, is-listed, is-illegal}
+use Rattle.locator_set.proofs.Earlier.{addresses-store}
 
 -- the answer by the locators at the places `ats`, after `count` others that `listed` holds, with the addresses `before` and `marked` times P
 unfoldable pub judged : List ℕ → (count : ℕ) → List Address → (marked : ℕ) → List ListedLocator → List ℕ → LocatorSet
@@ -79,7 +80,6 @@ from-start s h = rw (ne-eqb _ _ h) (go (unfit s 0 [] 0 (places s)) refl)
 
 -- what holds at the loop's head: the locators from `at` on, after those that were read, give the set's answer
 pub record Passing (s : List ℕ) (listed : List ListedLocator) (highs lows : List ℕ) (count marked at : ℕ) : Type 0 where
-  pub within : at ≤ length s
   pub few : count ≤ 8
   pub few-marks : marked ≤ count
   pub listed-long : length listed ≡ 8
@@ -96,7 +96,6 @@ set-empty s h = rw (eq-eqb _ _ h)
 pub set-starts : (s highs lows : List ℕ) → length highs ≡ 8 → length lows ≡ 8 → (length s ≡ 0 → ⊥) → Passing s blanks highs lows 0 0 0
 unfolding addresses
 set-starts s highs lows a b h = record {
-  within = omega arith;
   few = omega arith;
   few-marks = omega arith;
   listed-long = refl;
@@ -151,7 +150,6 @@ module _ (s : List ℕ) (listed : List ListedLocator) (highs lows : List ℕ) (c
           → Passing s (set listed count (listedAt s at)) (set highs count (listedAddress s at .high)) (set lows count (listedAddress s at .low))
           (count + 1) (marked + mark (preferredAt s at)) (nextLocator s at)
       goes-at b full m = record {
-        within = lies-within s at b .0;
         few = omega (arith, w .few);
         few-marks = omega (arith, w .few-marks, mark-few (preferredAt s at));
         listed-long = length-set listed count (listedAt s at) ∙ w .listed-long;

@@ -1,13 +1,13 @@
--- `parameter::walk` meets its contract. The loop's invariant: the parameters from `at` on, after what was seen, give the walk's answer.
+-- `frame::walk` meets its contract. The loop's invariant: the parameters from `at` on, after what was seen, give the walk's answer.
 -- The measure is what is left of the packet. Assumes nothing.
 use mathlib.Core.Path.{sym, _∙_}
 use Prim.Native.Nat.{_-_}
 use lib.ListN.{length}
 use borrow.Author.Needs.{needs}
 use borrow.Author.Tests.{not-true, not-false}
-use Rattle.parameter.proofs.Turns.{Walking, headless, starts, ends, refuses, refuses-fall, goes, nearer}
-use Rattle.parameter.proofs.walk.Statement.{statement}
-use Rattle.parameter.proofs.walk.Tie as tie
+use Rattle.frame.proofs.Turns.{Walking, headless, starts, ends, refuses, refuses-fall, goes, nearer}
+use Rattle.frame.proofs.walk.Statement.{statement}
+use Rattle.frame.proofs.walk.Tie as tie
 
 abbrev Inv-loop : tie.InvT-loop
 Inv-loop packet seen₀ last₀ at₀ seen last at = Walking packet seen last at

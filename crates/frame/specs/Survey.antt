@@ -5,14 +5,14 @@ use mathlib.Core.List.{List, [], _∷_}
 use lib.Dec.{eqb}
 use Rattle.refusal.specs.Table.{refusal}
 use Rattle.octets.specs.Records.{some}
-use Rattle.parameter.specs.Header.{headerHolds}
+use Rattle.frame.specs.Header.{headerHolds}
 use Rattle.parameter.specs.Types.{espInfo, locatorSet, seq, ack, echoResponseSigned, refusedType}
-use Rattle.parameter.specs.Parameters.{parameters, illFormed}
+use Rattle.frame.specs.Parameters.{parameters, illFormed}
 use Rattle.parameter.specs.declared.Parameter.{Parameter}
-use Rattle.parameter.specs.declared.Occurrence.{Occurrence}
-use Rattle.parameter.specs.declared.Survey.{Survey}
-use Rattle.parameter.specs.declared.Walked.{Walked}
-use Rattle.parameter.specs.declared.Walked.the-variants.{Rejected, Complete}
+use Rattle.frame.specs.declared.Occurrence.{Occurrence}
+use Rattle.frame.specs.declared.Survey.{Survey}
+use Rattle.frame.specs.declared.Walked.{Walked}
+use Rattle.frame.specs.declared.Walked.the-variants.{Rejected, Complete}
 
 -- a type that does not occur
 abbrev pub never : Occurrence

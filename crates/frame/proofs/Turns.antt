@@ -6,58 +6,24 @@ use Prim.Native.Nat.{ℕ, _+_, _-_, _<_, _≤_}
 use native.Mathlib.Omega.{arith}
 use lib.Dec.{ltb, leb, eqb}
 use lib.ListN.{length}
-use borrow.Author.Tests.{lt-ltb, le-ltb, ltb-false, le-leb, lt-leb, leb-true, leb-false}
+use borrow.Author.Tests.{lt-ltb, le-ltb}
 use Rattle.boolean.proofs.Laws.{or-false-left, or-false-right}
 use Rattle.refusal.specs.declared.Refusal.{Refusal}
 use Rattle.refusal.specs.Table.{refusal}
 use Rattle.octets.specs.Records.{some, records}
 use Rattle.octets.proofs.Runs.{records-more, records-none}
 use Rattle.parameter.specs.declared.Parameter.{Parameter}
-use Rattle.parameter.specs.declared.Survey.{Survey}
-use Rattle.parameter.specs.declared.Walked.{Walked}
-use Rattle.parameter.specs.declared.Walked.the-variants.{Rejected, Complete}
+use Rattle.parameter.proofs.Steps.{broken, at-end, at-refused, at-found}
+use Rattle.frame.specs.declared.Survey.{Survey}
+use Rattle.frame.specs.declared.Walked.{Walked}
+use Rattle.frame.specs.declared.Walked.the-variants.{Rejected, Complete}
 use Rattle.parameter.specs.declared.Step.{Step}
 use Rattle.parameter.specs.declared.Step.the-variants.{Found, End, Refused}
-use Rattle.parameter.specs.Header.{headerSize, headerHolds}
+use Rattle.frame.specs.Header.{headerSize, headerHolds}
 use Rattle.parameter.specs.Types.{refusedType}
-use Rattle.parameter.specs.Parameters.{takes, parameterAt, parameters, pastEnd, wrong, falls, illFormed, stepAt}
-use Rattle.parameter.specs.Survey.{occurs, noted, surveyed, unseen, walkOf}
-
--- ---- one step, by the tests of the code
-module _ (s : List ℕ) (at : ℕ) where
-  pub step-end : length s ≤ at → End ≡ stepAt s at
-  step-end h = rw (le-leb _ _ h)
-
-  pub step-past : at < length s → length s < parameterAt s at .next → Refused (refusal 3) ≡ stepAt s at
-  step-past h e = rw (lt-leb _ _ h, lt-ltb _ _ e)
-
-  pub step-wrong : at < length s → wrong (parameterAt s at) ≡ true → Refused (refusal 3) ≡ stepAt s at
-  step-wrong h e = simp (lt-leb _ _ h, e, or-true)
-
-  pub step-found : at < length s → parameterAt s at .next ≤ length s → wrong (parameterAt s at) ≡ false → Found (parameterAt s at) ≡ stepAt s at
-  step-found h e w = rw (lt-leb _ _ h, le-ltb _ _ e, w)
-
--- ---- what an answer of a step says of the tests e, for the end, and b, for a broken parameter
-is-end : (e b : Bool) (p : Parameter) → End ≡ cond e End (cond b (Refused (refusal 3)) (Found p)) → e ≡ true
-is-end true b p h = refl
-is-end false true p h = cc
-is-end false false p h = cc
-
-is-refused : (e b : Bool) (p : Parameter) {r : Refusal} → Refused r ≡ cond e End (cond b (Refused (refusal 3)) (Found p))
-    → (e ≡ false) × ((b ≡ true) × (r ≡ refusal 3))
-is-refused true b p h = (cc, (cc, cc))
-is-refused false true p h = (refl, (refl, cc))
-is-refused false false p h = (cc, (cc, cc))
-
-is-found : (e b : Bool) (p : Parameter) {q : Parameter} → Found q ≡ cond e End (cond b (Refused (refusal 3)) (Found p))
-    → (e ≡ false) × ((b ≡ false) × (q ≡ p))
-is-found true b p h = (cc, (cc, cc))
-is-found false true p h = (cc, (cc, cc))
-is-found false false p h = (refl, (refl, cc))
-
--- a parameter past the end, or with a wrong L
-abbrev broken : List ℕ → ℕ → Bool
-broken s at = pastEnd s (parameterAt s at) || wrong (parameterAt s at)
+use Rattle.parameter.specs.Parameters.{takes, parameterAt, pastEnd, wrong, stepAt}
+use Rattle.frame.specs.Parameters.{parameters, falls, illFormed}
+use Rattle.frame.specs.Survey.{occurs, noted, surveyed, unseen, walkOf}
 
 -- ---- the walk from any place on
 -- the answer of the walk over the parameters ps, after one of type `last` and what was seen before them
@@ -115,23 +81,21 @@ module _ (s : List ℕ) (seen : Survey) (last at : ℕ) (w : Walking s seen last
 
   pub ends : r ≡ End → Complete seen ≡ walkOf s
   ends e =
-      let h : length s ≤ at = leb-true _ _ (is-end (leb (length s) at) (broken s at) (parameterAt s at) (sym e ∙ g)) in
-      sym ended ∙ ap (judged s last seen) (sym (records-none (parameterAt s) (λ (p : Parameter). p .next) (length s) (w .steps) at h)) ∙ w .same
+      sym ended
+      ∙ (ap (judged s last seen) (sym (records-none (parameterAt s) (λ (p : Parameter). p .next) (length s) (w .steps) at (at-end s at g e))) ∙ w .same)
 
-  pub refuses : {no : Refusal} → r ≡ Refused no → Rejected no ≡ walkOf s
+  pub refuses : {why : Refusal} → r ≡ Refused why → Rejected why ≡ walkOf s
   refuses e =
-      let q = is-refused (leb (length s) at) (broken s at) (parameterAt s at) (sym e ∙ g) in
-      ap Rejected (q .1 .1) ∙ (sym (judged-broken s last seen (parameterAt s at) _ (q .1 .0)) ∙ front (leb-false _ _ (q .0)))
-
-  found : {p : Parameter} → r ≡ Found p → (leb (length s) at ≡ false) × ((broken s at ≡ false) × (p ≡ parameterAt s at))
-  found e = is-found (leb (length s) at) (broken s at) (parameterAt s at) (sym e ∙ g)
+      let q = at-refused s at g e in
+      ap Rejected (q .1 .1) ∙ (sym (judged-broken s last seen (parameterAt s at) _ (q .1 .0)) ∙ front (q .0))
 
   pub nearer : {p : Parameter} → r ≡ Found p → length s - p .next < length s - at
-  nearer e = let h : at < length s = leb-false _ _ (found e .0) in rw (found e .1 .1) (omega arith)
+  nearer e = let q = at-found s at g e in rw (q .1 .1) (omega (arith, q .0))
 
   pub refuses-fall : {p : Parameter} → r ≡ Found p → p .kind < last → Rejected (refusal 3) ≡ walkOf s
   refuses-fall e f =
-      sym (judged-falls s last seen (parameterAt s at) _ (lt-ltb _ _ (rw (found e .1 .1) at f))) ∙ front (leb-false _ _ (found e .0))
+      let q = at-found s at g e in
+      sym (judged-falls s last seen (parameterAt s at) _ (lt-ltb _ _ (rw (q .1 .1) at f))) ∙ front (q .0)
 
   goes-at : at < length s → broken s at ≡ false → last ≤ parameterAt s at .kind
       → Walking s (noted seen (parameterAt s at .kind) (parameterAt s at .body) (parameterAt s at .len)) (parameterAt s at .kind) (parameterAt s at .next)
@@ -144,4 +108,4 @@ module _ (s : List ℕ) (seen : Survey) (last at : ℕ) (w : Walking s seen last
   }
 
   pub goes : {p : Parameter} → r ≡ Found p → last ≤ p .kind → Walking s (noted seen (p .kind) (p .body) (p .len)) (p .kind) (p .next)
-  goes e f = rw (found e .1 .1) (goes-at (leb-false _ _ (found e .0)) (found e .1 .0) (rw (found e .1 .1) at f))
+  goes e f = let q = at-found s at g e in rw (q .1 .1) (goes-at (q .0) (q .1 .0) (rw (q .1 .1) at f))

@@ -1,0 +1,161 @@
+// The frame of an UPDATE packet: its header, the walk over all its parameters, and refusal 3. Depends on parameter, refusal.
+use parameter::Step;
+use refusal::Refusal;
+ghost use mathlib.Core.Path.{_≡_};
+ghost use Prim.Native.Nat.{_+_, _*_};
+ghost use mathlib.Core.Bool.{cond};
+ghost use Rattle.parameter.specs.Types.{refusedType};
+ghost use Rattle.frame.specs.Header.{headerHolds};
+ghost use Rattle.frame.specs.Survey.{again, counted, noted, walkOf};
+
+// How often a type occurs in a packet, 0, 1, or 2 for more, with the place and the length of the first one.
+pub struct Occurrence {
+    pub times: usize,
+    pub body: usize,
+    pub len: usize,
+}
+
+// What the walk has seen. `unknown` is 1 where a type was seen that refusal 4 refuses, and else 0.
+// Every field is a usize: a survey is carried round the loop by value.
+pub struct Survey {
+    pub unknown: usize,
+    pub esp: Occurrence,
+    pub set: Occurrence,
+    pub seq: Occurrence,
+    pub ack: Occurrence,
+    pub echo: Occurrence,
+}
+
+pub enum Walked {
+    Rejected(Refusal),
+    Complete(Survey),
+}
+
+fn once_more(seen: Occurrence, body: usize, len: usize) -> Occurrence
+    ensures { λ r. ⌜ r ≡ again seen body len ⌝ }
+{
+    if seen.times == 0 {
+        Occurrence {
+            times: 1,
+            body,
+            len,
+        }
+    } else {
+        Occurrence {
+            times: 2,
+            body: seen.body,
+            len: seen.len,
+        }
+    }
+}
+
+// The occurrences of a type after one more parameter.
+fn count(wanted: usize, seen: Occurrence, kind: usize, body: usize, len: usize) -> Occurrence
+    ensures { λ r. ⌜ r ≡ counted wanted seen kind body len ⌝ }
+{
+    if kind == wanted {
+        once_more(seen, body, len)
+    } else {
+        seen
+    }
+}
+
+fn note_type(unknown: usize, kind: usize) -> usize
+    ensures { λ r. ⌜ r ≡ cond (refusedType kind) 1 unknown ⌝ }
+{
+    if parameter::refused_type(kind) {
+        1
+    } else {
+        unknown
+    }
+}
+
+// What has been seen after one more parameter.
+fn note(seen: Survey, kind: usize, body: usize, len: usize) -> Survey
+    ensures { λ r. ⌜ r ≡ noted seen kind body len ⌝ }
+{
+    let esp = seen.esp;
+    let set = seen.set;
+    let seq = seen.seq;
+    let ack = seen.ack;
+    let echo = seen.echo;
+    Survey {
+        unknown: note_type(seen.unknown, kind),
+        esp: count(parameter::ESP_INFO, esp, kind, body, len),
+        set: count(parameter::LOCATOR_SET, set, kind, body, len),
+        seq: count(parameter::SEQ, seq, kind, body, len),
+        ack: count(parameter::ACK, ack, kind, body, len),
+        echo: count(parameter::ECHO_RESPONSE_SIGNED, echo, kind, body, len),
+    }
+}
+
+// The packet's length by its header: (h + 1) × 8.
+fn header_length(h: u8) -> usize
+    ensures { λ r. ⌜ r ≡ (h + 1) * 8 ⌝ }
+{
+    (h as usize + 1) * 8
+}
+
+// The header's rule.
+fn header_holds(s: &[u8]) -> bool
+    ensures { λ r. ⌜ r ≡ headerHolds (now (s .entry)) ⌝ }
+{
+    if s.len() < 40 {
+        return false;
+    }
+    if s[0] != 59 {
+        return false;
+    }
+    if header_length(s[1]) != s.len() {
+        return false;
+    }
+    if s[2] != 16 {
+        return false;
+    }
+    if s[3] / 16 != 2 {
+        return false;
+    }
+    s[3] % 2 == 1
+}
+
+// One walk over all parameters: refusal 3, or what was seen.
+pub fn walk(packet: &[u8]) -> Walked
+    ensures { λ r. ⌜ r ≡ walkOf (now (packet .entry)) ⌝ }
+{
+    if !header_holds(packet) {
+        return Walked::Rejected(Refusal::Malformed);
+    }
+    let never = Occurrence {
+        times: 0,
+        body: 0,
+        len: 0,
+    };
+    let mut seen = Survey {
+        unknown: 0,
+        esp: never,
+        set: never,
+        seq: never,
+        ack: never,
+        echo: never,
+    };
+    let mut last: usize = 0;
+    let mut at: usize = 40;
+    loop {
+        match parameter::step_at(packet, at) {
+            Step::End => {
+                return Walked::Complete(seen);
+            }
+            Step::Refused(refusal) => {
+                return Walked::Rejected(refusal);
+            }
+            Step::Found(p) => {
+                if p.kind < last {
+                    return Walked::Rejected(Refusal::Malformed);
+                }
+                seen = note(seen, p.kind, p.body, p.len);
+                last = p.kind;
+                at = p.next;
+            }
+        }
+    }
+}
