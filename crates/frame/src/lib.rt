@@ -1,8 +1,7 @@
-// The frame of an UPDATE packet: its header, the walk over all its parameters, and refusal 3. Depends on parameter, refusal.
+// The frame of an UPDATE packet: its header, the walk over all its parameters, and refusal 3. Depends on parameter, octets, refusal.
 use parameter::Step;
 use refusal::Refusal;
 ghost use mathlib.Core.Path.{_≡_};
-ghost use Prim.Native.Nat.{_+_, _*_};
 ghost use mathlib.Core.Bool.{cond};
 ghost use Rattle.parameter.specs.Types.{refusedType};
 ghost use Rattle.frame.specs.Header.{headerHolds};
@@ -89,13 +88,6 @@ fn note(seen: Survey, kind: usize, body: usize, len: usize) -> Survey
     }
 }
 
-// The packet's length by its header: (h + 1) × 8.
-fn header_length(h: u8) -> usize
-    ensures { λ r. ⌜ r ≡ (h + 1) * 8 ⌝ }
-{
-    (h as usize + 1) * 8
-}
-
 // The header's rule.
 fn header_holds(s: &[u8]) -> bool
     ensures { λ r. ⌜ r ≡ headerHolds (now (s .entry)) ⌝ }
@@ -106,7 +98,7 @@ fn header_holds(s: &[u8]) -> bool
     if s[0] != 59 {
         return false;
     }
-    if header_length(s[1]) != s.len() {
+    if (octets::byte(s[1]) + 1) * 8 != s.len() {
         return false;
     }
     if s[2] != 16 {

@@ -21,20 +21,13 @@ pub enum LocatorStep {
     Illegal,
 }
 
-// A byte as a wider number, with the bound that keeps a place computed from it from wrapping.
-fn byte(x: u8) -> usize
-    ensures { λ r. ⌜ (r ≡ x) × (r < 256) ⌝ }
-{
-    x as usize
-}
-
 // The locator at `at`, of which the eight bytes of the head are there, has a form that refusal 6 refuses.
 fn ill_form(s: &[u8], at: usize) -> bool
     requires { ⌜ at + 8 ≤ length (now s) ⌝ }
     ensures { λ r. ⌜ r ≡ illForm (now (s .entry)) at ⌝ }
 {
-    let kind = byte(s[at + 1]);
-    let units = byte(s[at + 2]);
+    let kind = octets::byte(s[at + 1]);
+    let units = octets::byte(s[at + 2]);
     boolean::either(
         s.len() < at + 8 + 4 * units,
         boolean::either(
@@ -72,7 +65,7 @@ pub fn locator_step(s: &[u8], at: usize) -> LocatorStep
     if ill_form(s, at) {
         return LocatorStep::Illegal;
     }
-    let place = at + 8 + 4 * byte(s[at + 1]);
+    let place = at + 8 + 4 * octets::byte(s[at + 1]);
     let address = address::address_at(s, place);
     if !address::is_legal(address) {
         return LocatorStep::Illegal;
@@ -85,5 +78,5 @@ pub fn locator_step(s: &[u8], at: usize) -> LocatorStep
         kind: s[at + 1],
         preferred: s[at + 3] % 2 == 1,
     };
-    LocatorStep::Listed(listed, at + 8 + 4 * byte(s[at + 2]))
+    LocatorStep::Listed(listed, at + 8 + 4 * octets::byte(s[at + 2]))
 }

@@ -1,19 +1,18 @@
 // Big-endian numbers in a slice of bytes, total for every place. Depends on nothing.
-// Each sum is balanced, so that it is compiled to one load and a byte swap.
 ghost use mathlib.Core.Path.{_≡_};
 ghost use Prim.Native.Nat.{_+_, _≤_, _<_};
 ghost use lib.ListN.{length};
 ghost use Rattle.octets.specs.Numbers.{bigEndian, numberAt};
 
-// A byte as a wider number, with the bound that keeps a sum of such numbers from wrapping.
-fn byte(x: u8) -> u64
+// A byte as a wider number, with the bound that keeps a sum of such numbers, or a place computed from one, from wrapping.
+pub fn byte(x: u8) -> usize
     ensures { λ r. ⌜ (r ≡ x) × (r < 256) ⌝ }
 {
-    x as u64
+    x as usize
 }
 
-// The number in the four bytes at `at`, which lie within s.
-fn four(s: &[u8], at: usize) -> u64
+// The number in the four bytes at `at`, which lie within s. The sum is balanced, so that it is compiled to one load and a byte swap.
+fn four(s: &[u8], at: usize) -> usize
     requires { ⌜ at + 4 ≤ length (now s) ⌝ }
     ensures { λ r. ⌜ (r ≡ bigEndian (now (s .entry)) at 4) × (r < 4294967296) ⌝ }
 {
@@ -30,7 +29,7 @@ pub fn u16_at(s: &[u8], at: usize) -> usize
     if s.len() - 2 < at {
         return 0;
     }
-    (byte(s[at]) * 256 + byte(s[at + 1])) as usize
+    byte(s[at]) * 256 + byte(s[at + 1])
 }
 
 // The same in four bytes.
@@ -56,5 +55,5 @@ pub fn u64_at(s: &[u8], at: usize) -> u64
     if s.len() - 8 < at {
         return 0;
     }
-    four(s, at) * 4294967296 + four(s, at + 4)
+    (four(s, at) * 4294967296 + four(s, at + 4)) as u64
 }

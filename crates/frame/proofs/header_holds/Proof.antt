@@ -16,14 +16,20 @@ shared-slice-read-if2 c = omega arith
 returns-2 : tie.Need-returns-2
 returns-2 c = simp (ne-eqb _ _ (c .if2 .taken), and-false)
 
-shared-slice-read-header-length : tie.Need-shared-slice-read-header-length
-shared-slice-read-header-length c = omega arith
+shared-slice-read-byte : tie.Need-shared-slice-read-byte
+shared-slice-read-byte c = omega arith
 
-header-length-requires : tie.Need-header-length-requires
-header-length-requires c κs = tt
+byte-requires : tie.Need-byte-requires
+byte-requires c κs = tt
+
+add-if3 : tie.Need-add-if3
+add-if3 c = omega arith
+
+mul-if3 : tie.Need-mul-if3
+mul-if3 c = omega arith
 
 returns-3 : tie.Need-returns-3
-returns-3 c = simp (ne-eqb _ _ (rw (c .before .header-length .ensures) at (c .if3 .taken)), and-false)
+returns-3 c = simp (ne-eqb _ _ (rw (c .before .byte .ensures .0) at (c .if3 .taken)), and-false)
 
 shared-slice-read-if4 : tie.Need-shared-slice-read-if4
 shared-slice-read-if4 c = omega arith
@@ -43,7 +49,7 @@ shared-slice-read-result c = omega arith
 returns-6 : tie.Need-returns-6
 returns-6 c = and-step (le-leb _ _ (c .before .before .before .before .before .before .before .before .before .before .if1 .left))
     (and-step (eq-eqb _ _ (c .before .before .before .before .before .before .before .before .if2 .left))
-    (and-step (eq-eqb _ _ (rw (c .before .before .before .before .before .before .header-length .ensures) at (c .before .before .before .before .before .if3 .left)))
+    (and-step (eq-eqb _ _ (rw (c .before .before .before .before .before .before .byte .ensures .0) at (c .before .before .before .before .before .if3 .left)))
     (and-step (eq-eqb _ _ (c .before .before .before .if4 .left)) (and-step (eq-eqb _ _ (c .before .if5 .left)) refl))))
 
 pub header-holds-spec : {M : Type 1} → statement M
@@ -53,8 +59,10 @@ header-holds-spec =
     returns
     shared-slice-read-if2
     returns-2
-    shared-slice-read-header-length
-    header-length-requires
+    shared-slice-read-byte
+    byte-requires
+    add-if3
+    mul-if3
     returns-3
     shared-slice-read-if4
     returns-4

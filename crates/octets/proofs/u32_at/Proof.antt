@@ -19,7 +19,7 @@ four-requires : tie.Need-four-requires
 four-requires c κs = search needs
 
 cast-result : tie.Need-cast-result
-cast-result c = search needs
+cast-result c = omega arith
 
 returns-3 : tie.Need-returns-3
 returns-3 c = let a = c .before .before .before .before .args in omega (arith, number-within (a .s .now) (a .at) 4 (omega arith))
