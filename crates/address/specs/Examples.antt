@@ -1,7 +1,7 @@
 -- Worked examples, computed from the definitions: the addresses at each edge of the rule.
 use Prim.Native.Nat.{ℕ, _+_, _*_, _^_}
 use mathlib.Core.Path.{_≡_, refl}
-use mathlib.Core.Bool.{Bool, true, false}
+use mathlib.Core.Bool.{true, false}
 use mathlib.Core.List.{List, [], _∷_, map}
 use Rattle.address.specs.Rules.{legal}
 use Rattle.address.specs.declared.Address.{Address}

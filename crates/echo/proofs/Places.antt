@@ -1,5 +1,5 @@
 -- Where the echo lies, by the tests of the code. Assumes nothing.
-use mathlib.Core.Path.{_≡_, refl, sym, _∙_}
+use mathlib.Core.Path.{_≡_, refl}
 use mathlib.Core.Bool.{Bool, true, false, not, cond, _&&_, and-false}
 use mathlib.Core.List.{List}
 use Prim.Native.Nat.{ℕ, _+_, _≤_}
@@ -8,12 +8,12 @@ use lib.Dec.{eqb}
 use lib.ListN.{length}
 use borrow.Author.Tests.{eq-eqb, ne-eqb, eqb-true, not-true}
 use Rattle.boolean.proofs.Laws.{and-true-left, and-true-right}
-use Rattle.parameter.specs.Types.{echoResponseSigned}
+use Rattle.parameter.specs.Types.{echoResponseSigned, nonceSize}
 use Rattle.frame.specs.Survey.{surveyOf, refusal3}
 use Rattle.frame.specs.declared.Occurrence.{Occurrence}
 use Rattle.frame.proofs.Within.{lies-within}
 use Rattle.echo.specs.declared.Place.{Place}
-use Rattle.echo.specs.Parts.{nonceSize, sameBytes, partAt, echoes, atEnd, placeOf}
+use Rattle.echo.specs.Parts.{sameBytes, partAt, echoes, atEnd, placeOf}
 
 -- ---- whether the first echo response is the nonce
 module _ (s : List ℕ) (echo : Occurrence) (nonce : List ℕ) where

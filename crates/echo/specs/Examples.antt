@@ -7,7 +7,6 @@ use Rattle.octets.specs.Records.{records, some}
 use Rattle.parameter.specs.Types.{refusedType, wrongLength}
 use Rattle.frame.specs.Parameters.{falls}
 use Rattle.frame.specs.Survey.{occurs}
-use Rattle.echo.specs.declared.Place.{Place}
 use Rattle.echo.specs.Parts.{sameBytes, echoes, placeOf}
 
 -- two nonces

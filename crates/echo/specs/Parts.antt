@@ -6,13 +6,10 @@ use mathlib.Core.List.{List, [], _∷_}
 use lib.Dec.{eqb}
 use denote.Ref.{RefT, ptr, now}
 use lib.ListN.{length, take, drop}
+use Rattle.parameter.specs.Types.{nonceSize}
 use Rattle.frame.specs.Survey.{surveyOf, refusal3}
 use Rattle.frame.specs.declared.Occurrence.{Occurrence}
 use Rattle.echo.specs.declared.Place.{Place}
-
--- a nonce's bytes
-abbrev pub nonceSize : ℕ
-nonceSize = 8
 
 -- two lists hold the same bytes
 unfoldable pub sameBytes : List ℕ → List ℕ → Bool

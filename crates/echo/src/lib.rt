@@ -1,4 +1,4 @@
-// For the log: the part of a packet that echoes a nonce. Depends on frame.
+// For the log: the part of a packet that echoes a nonce. Depends on frame, parameter.
 use frame::Occurrence;
 use frame::Walked;
 ghost use mathlib.Core.Path.{_≡_};
@@ -37,11 +37,11 @@ fn is_echo(packet: &[u8], echo: Occurrence, nonce: &[u8]) -> bool
     if echo.times == 0 {
         return false;
     }
-    if echo.len != 8 {
+    if echo.len != parameter::NONCE_SIZE {
         return false;
     }
     let start = echo.body;
-    let end = start + 8;
+    let end = start + parameter::NONCE_SIZE;
     same_bytes(&packet[start..end], nonce)
 }
 
@@ -59,7 +59,7 @@ fn at_end(packet: &[u8]) -> Place
 pub fn echo_place(packet: &[u8], nonce: &[u8]) -> Place
     ensures { λ r. ⌜ r ≡ placeOf (now (packet .entry)) (now (nonce .entry)) ⌝ }
 {
-    if nonce.len() != 8 {
+    if nonce.len() != parameter::NONCE_SIZE {
         return at_end(packet);
     }
     match frame::walk(packet) {
@@ -69,7 +69,7 @@ pub fn echo_place(packet: &[u8], nonce: &[u8]) -> Place
             if is_echo(packet, echo, nonce) {
                 Place {
                     start: echo.body,
-                    len: 8,
+                    len: parameter::NONCE_SIZE,
                 }
             } else {
                 at_end(packet)

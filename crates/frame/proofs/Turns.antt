@@ -1,10 +1,10 @@
 -- The walk over the parameters, turn by turn. Assumes nothing.
 use mathlib.Core.Path.{_≡_, refl, ap, sym, _∙_}
-use mathlib.Core.Bool.{Bool, true, false, not, cond, _&&_, _||_, or-true}
+use mathlib.Core.Bool.{Bool, true, false, cond, _||_, or-true}
 use mathlib.Core.List.{List, [], _∷_}
-use Prim.Native.Nat.{ℕ, _+_, _-_, _<_, _≤_}
+use Prim.Native.Nat.{ℕ, _-_, _<_, _≤_}
 use native.Mathlib.Omega.{arith}
-use lib.Dec.{ltb, leb, eqb}
+use lib.Dec.{ltb}
 use lib.ListN.{length}
 use borrow.Author.Tests.{lt-ltb, le-ltb}
 use Rattle.boolean.proofs.Laws.{or-false-left, or-false-right}
@@ -20,12 +20,28 @@ use Rattle.frame.specs.declared.Walked.the-variants.{Rejected, Complete}
 use Rattle.parameter.specs.declared.Step.{Step}
 use Rattle.parameter.specs.declared.Step.the-variants.{Found, End, Refused}
 use Rattle.frame.specs.Header.{headerSize, headerHolds}
-use Rattle.parameter.specs.Types.{refusedType}
-use Rattle.parameter.specs.Parameters.{takes, parameterAt, pastEnd, wrong, stepAt}
-use Rattle.frame.specs.Parameters.{parameters, falls, illFormed}
-use Rattle.frame.specs.Survey.{occurs, noted, surveyed, unseen, walkOf}
+use Rattle.parameter.specs.Types.{espInfo, locatorSet, seq, ack, echoResponseSigned}
+use Rattle.parameter.specs.Parameters.{parameterAt, pastEnd, wrong, stepAt}
+use Rattle.frame.specs.Parameters.{falls, illFormed}
+use Rattle.frame.specs.Survey.{never, occurs, refused, walkOf}
+use Rattle.frame.specs.Turn.{noted}
 
 -- ---- the walk from any place on
+-- what the parameters ps add to what was seen before them
+abbrev pub surveyed : Survey → List Parameter → Survey
+surveyed seen ps = record {
+  unknown = cond (some refused ps) 1 (seen .unknown);
+  esp = occurs espInfo (seen .esp) ps;
+  set = occurs locatorSet (seen .set) ps;
+  seq = occurs seq (seen .seq) ps;
+  ack = occurs ack (seen .ack) ps;
+  echo = occurs echoResponseSigned (seen .echo) ps;
+}
+
+-- nothing seen yet
+abbrev pub unseen : Survey
+unseen = record { unknown = 0; esp = never; set = never; seq = never; ack = never; echo = never }
+
 -- the answer of the walk over the parameters ps, after one of type `last` and what was seen before them
 unfoldable pub judged : List ℕ → ℕ → Survey → List Parameter → Walked
 judged s last seen ps = cond (illFormed s last ps) (Rejected (refusal 3)) (Complete (surveyed seen ps))

@@ -1,3 +1,4 @@
 pub mod Header
 pub mod Parameters
 pub mod Survey
+pub mod Turn

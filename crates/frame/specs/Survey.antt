@@ -37,36 +37,6 @@ occurs type seen (p ∷ ps) = occurs type (counted type seen (p .kind) (p .body)
 abbrev pub refused : Parameter → Bool
 refused p = refusedType (p .kind)
 
--- what has been seen after one more parameter
-abbrev pub noted : Survey → (kind body len : ℕ) → Survey
-noted seen kind body len = record {
-  unknown = cond (refusedType kind) 1 (seen .unknown);
-  esp = counted espInfo (seen .esp) kind body len;
-  set = counted locatorSet (seen .set) kind body len;
-  seq = counted seq (seen .seq) kind body len;
-  ack = counted ack (seen .ack) kind body len;
-  echo = counted echoResponseSigned (seen .echo) kind body len;
-}
-
--- what the parameters ps add to what was seen before them
-abbrev pub surveyed : Survey → List Parameter → Survey
-surveyed seen ps = record {
-  unknown = cond (some refused ps) 1 (seen .unknown);
-  esp = occurs espInfo (seen .esp) ps;
-  set = occurs locatorSet (seen .set) ps;
-  seq = occurs seq (seen .seq) ps;
-  ack = occurs ack (seen .ack) ps;
-  echo = occurs echoResponseSigned (seen .echo) ps;
-}
-
--- nothing seen yet
-abbrev pub unseen : Survey
-unseen = record { unknown = 0; esp = never; set = never; seq = never; ack = never; echo = never }
-
--- the survey of a packet's parameters
-abbrev pub surveyOf : List ℕ → Survey
-surveyOf s = surveyed unseen (parameters s)
-
 -- refusal 3: "under 40 bytes, header rule broken, parameter past the end, falling type, wrong L for 65, 385, 449".
 -- It judges all parameters
 abbrev pub refusal3 : List ℕ → Bool
@@ -75,6 +45,17 @@ refusal3 s = not (headerHolds s) || illFormed s 0 (parameters s)
 -- refusal 4: "odd type not known, or 897"
 abbrev pub refusal4 : List ℕ → Bool
 refusal4 s = some refused (parameters s)
+
+-- the survey of a packet's parameters: what occurs how often, and whether refusal 4 refuses a type
+abbrev pub surveyOf : List ℕ → Survey
+surveyOf s = record {
+  unknown = cond (refusal4 s) 1 0;
+  esp = occurs espInfo never (parameters s);
+  set = occurs locatorSet never (parameters s);
+  seq = occurs seq never (parameters s);
+  ack = occurs ack never (parameters s);
+  echo = occurs echoResponseSigned never (parameters s);
+}
 
 -- what the walk answers
 unfoldable pub walkOf : List ℕ → Walked

@@ -5,7 +5,17 @@ ghost use mathlib.Core.Path.{_≡_};
 ghost use mathlib.Core.Bool.{cond};
 ghost use Rattle.parameter.specs.Types.{refusedType};
 ghost use Rattle.frame.specs.Header.{headerHolds};
-ghost use Rattle.frame.specs.Survey.{again, counted, noted, walkOf};
+ghost use Rattle.frame.specs.Survey.{again, counted, walkOf};
+ghost use Rattle.frame.specs.Turn.{noted};
+
+// The header: its size, and what stands in it.
+const HEADER_SIZE: usize = 40;
+
+const NO_NEXT_HEADER: u8 = 59;
+
+const UPDATE: u8 = 16;
+
+const HIP_VERSION: u8 = 2;
 
 // How often a type occurs in a packet, 0, 1, or 2 for more, with the place and the length of the first one.
 pub struct Occurrence {
@@ -25,11 +35,13 @@ pub struct Survey {
     pub echo: Occurrence,
 }
 
+// What one walk over all parameters answers: refusal 3, or what it has seen.
 pub enum Walked {
     Rejected(Refusal),
     Complete(Survey),
 }
 
+// One more parameter of a type that was seen so often.
 fn once_more(seen: Occurrence, body: usize, len: usize) -> Occurrence
     ensures { λ r. ⌜ r ≡ again seen body len ⌝ }
 {
@@ -59,6 +71,7 @@ fn count(wanted: usize, seen: Occurrence, kind: usize, body: usize, len: usize) 
     }
 }
 
+// Whether refusal 4 refuses a type, after one more parameter.
 fn note_type(unknown: usize, kind: usize) -> usize
     ensures { λ r. ⌜ r ≡ cond (refusedType kind) 1 unknown ⌝ }
 {
@@ -92,19 +105,19 @@ fn note(seen: Survey, kind: usize, body: usize, len: usize) -> Survey
 fn header_holds(s: &[u8]) -> bool
     ensures { λ r. ⌜ r ≡ headerHolds (now (s .entry)) ⌝ }
 {
-    if s.len() < 40 {
+    if s.len() < HEADER_SIZE {
         return false;
     }
-    if s[0] != 59 {
+    if s[0] != NO_NEXT_HEADER {
         return false;
     }
     if (octets::byte(s[1]) + 1) * 8 != s.len() {
         return false;
     }
-    if s[2] != 16 {
+    if s[2] != UPDATE {
         return false;
     }
-    if s[3] / 16 != 2 {
+    if s[3] / 16 != HIP_VERSION {
         return false;
     }
     s[3] % 2 == 1
@@ -131,7 +144,7 @@ pub fn walk(packet: &[u8]) -> Walked
         echo: never,
     };
     let mut last: usize = 0;
-    let mut at: usize = 40;
+    let mut at: usize = HEADER_SIZE;
     loop {
         match parameter::step_at(packet, at) {
             Step::End => {

@@ -7,11 +7,12 @@ use native.Mathlib.Omega.{arith}
 use lib.Dec.{ltb, eqb}
 use lib.ListN.{length}
 use borrow.Author.Tests.{lt-ltb, ltb-false, eqb-true}
+use Rattle.refusal.specs.declared.Refusal.{Refusal}
+use Rattle.refusal.specs.Table.{refusal}
 use Rattle.boolean.proofs.Laws.{or-false-left}
 use Rattle.address.specs.Rules.{legal}
 use Rattle.locator.specs.declared.ListedLocator.{ListedLocator}
-use Rattle.locator.specs.declared.LocatorStep.{LocatorStep}
-use Rattle.locator.specs.declared.LocatorStep.the-variants.{Listed, Illegal}
+use Rattle.locator.specs.declared.LocatorStep.the-variants.{Listed, Refused}
 use Rattle.locator.specs.Locators.{trafficAt, kindAt, unitsAt, lifetimeAt, listedAddress, nextLocator, illForm, illegalAt, listedAt, locatorStepAt}
 
 module _ (s : List ℕ) (at : ℕ) where
@@ -25,13 +26,13 @@ module _ (s : List ℕ) (at : ℕ) where
       go true e = rw (lt-ltb (length s) (nextLocator s at) (omega (arith, eqb-true (unitsAt s at) (4 + kindAt s at) e)))
       go false e = simp or-true
 
-  pub step-short : length s - at < 24 → Illegal ≡ locatorStepAt s at
+  pub step-short : length s - at < 24 → Refused (refusal 6) ≡ locatorStepAt s at
   step-short h = rw (short-ill h)
 
-  pub step-ill : illForm s at ≡ true → Illegal ≡ locatorStepAt s at
+  pub step-ill : illForm s at ≡ true → Refused (refusal 6) ≡ locatorStepAt s at
   step-ill h = rw h
 
-  pub step-illegal : legal (listedAddress s at) ≡ false → Illegal ≡ locatorStepAt s at
+  pub step-illegal : legal (listedAddress s at) ≡ false → Refused (refusal 6) ≡ locatorStepAt s at
   step-illegal h = simp (h, or-true)
 
   pub step-listed : illForm s at ≡ false → legal (listedAddress s at) ≡ true → Listed (listedAt s at) (nextLocator s at) ≡ locatorStepAt s at
@@ -45,10 +46,10 @@ module _ (s : List ℕ) (at : ℕ) where
       (ltb-false (length s) (nextLocator s at) (or-false-left (ltb (length s) (nextLocator s at)) _ f), omega arith)
 
 -- what a step's answer says of its test
-pub is-listed : (b : Bool) (p l : ListedLocator) (m n : ℕ) → Listed l n ≡ cond b Illegal (Listed p m) → (b ≡ false) × ((l ≡ p) × (n ≡ m))
+pub is-listed : (b : Bool) (p l : ListedLocator) (m n : ℕ) → Listed l n ≡ cond b (Refused (refusal 6)) (Listed p m) → (b ≡ false) × ((l ≡ p) × (n ≡ m))
 is-listed true p l m n h = (cc, (cc, cc))
 is-listed false p l m n h = (refl, (cc, cc))
 
-pub is-illegal : (b : Bool) (p : ListedLocator) (m : ℕ) → Illegal ≡ cond b Illegal (Listed p m) → b ≡ true
-is-illegal true p m h = refl
-is-illegal false p m h = cc
+pub is-refused : (b : Bool) (p : ListedLocator) (m : ℕ) {r : Refusal} → Refused r ≡ cond b (Refused (refusal 6)) (Listed p m) → b ≡ true
+is-refused true p m h = refl
+is-refused false p m h = cc

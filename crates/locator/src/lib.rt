@@ -1,9 +1,17 @@
-// A locator of a LOCATOR_SET, and what refusal 6 refuses of it. Depends on address, octets, boolean.
+// A locator of a LOCATOR_SET, and what refusal 6 refuses of it. Depends on address, octets, boolean, refusal.
 use address::Address;
+use refusal::Refusal;
 ghost use mathlib.Core.Path.{_≡_};
 ghost use Prim.Native.Nat.{_+_, _≤_, _<_};
 ghost use lib.ListN.{length};
 ghost use Rattle.locator.specs.Locators.{illForm, spiAt, locatorStepAt};
+
+// The bytes of a locator before its SPI or address, the unit that its length counts, and the least that one takes.
+const HEAD_SIZE: usize = 8;
+
+const UNIT: usize = 4;
+
+const LEAST_SIZE: usize = 24;
 
 // A locator as a set lists it. `kind` is its locator type, and `spi` the SPI of a type 1 locator, 0 for type 0.
 pub struct ListedLocator {
@@ -15,10 +23,10 @@ pub struct ListedLocator {
     pub preferred: bool,
 }
 
-// What stands at a place of a set: a locator and where the next one starts, or what refusal 6 refuses.
+// What stands at a place of a set: a locator and where the next one starts, or refusal 6.
 pub enum LocatorStep {
     Listed(ListedLocator, usize),
-    Illegal,
+    Refused(Refusal),
 }
 
 // The locator at `at`, of which the eight bytes of the head are there, has a form that refusal 6 refuses.
@@ -29,7 +37,7 @@ fn ill_form(s: &[u8], at: usize) -> bool
     let kind = octets::byte(s[at + 1]);
     let units = octets::byte(s[at + 2]);
     boolean::either(
-        s.len() < at + 8 + 4 * units,
+        s.len() < at + HEAD_SIZE + UNIT * units,
         boolean::either(
             2 < s[at],
             boolean::either(
@@ -48,7 +56,7 @@ fn spi_at(s: &[u8], at: usize) -> u32
     if s[at + 1] == 0 {
         0
     } else {
-        octets::u32_at(s, at + 8)
+        octets::u32_at(s, at + HEAD_SIZE)
     }
 }
 
@@ -57,18 +65,18 @@ pub fn locator_step(s: &[u8], at: usize) -> LocatorStep
     ensures { λ r. ⌜ r ≡ locatorStepAt (now (s .entry)) at ⌝ }
 {
     if s.len() <= at {
-        return LocatorStep::Illegal;
+        return LocatorStep::Refused(Refusal::BadLocatorSet);
     }
-    if s.len() - at < 24 {
-        return LocatorStep::Illegal;
+    if s.len() - at < LEAST_SIZE {
+        return LocatorStep::Refused(Refusal::BadLocatorSet);
     }
     if ill_form(s, at) {
-        return LocatorStep::Illegal;
+        return LocatorStep::Refused(Refusal::BadLocatorSet);
     }
-    let place = at + 8 + 4 * octets::byte(s[at + 1]);
+    let place = at + HEAD_SIZE + UNIT * octets::byte(s[at + 1]);
     let address = address::address_at(s, place);
     if !address::is_legal(address) {
-        return LocatorStep::Illegal;
+        return LocatorStep::Refused(Refusal::BadLocatorSet);
     }
     let listed = ListedLocator {
         address,
@@ -78,5 +86,5 @@ pub fn locator_step(s: &[u8], at: usize) -> LocatorStep
         kind: s[at + 1],
         preferred: s[at + 3] % 2 == 1,
     };
-    LocatorStep::Listed(listed, at + 8 + 4 * octets::byte(s[at + 2]))
+    LocatorStep::Listed(listed, at + HEAD_SIZE + UNIT * octets::byte(s[at + 2]))
 }

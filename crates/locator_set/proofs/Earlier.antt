@@ -10,7 +10,7 @@ use lib.Seq.{getD-set-same, getD-set-other}
 use Rattle.octets.specs.Records.{some}
 use Rattle.address.specs.declared.Address.{Address}
 use Rattle.address.specs.Rules.{sameAddress}
-use Rattle.locator_set.specs.Sets.{addresses}
+use Rattle.locator_set.specs.Arrays.{addresses}
 
 -- the last of them, and the others
 addresses-more : (k : ℕ) (highs lows : List ℕ) → 0 < k

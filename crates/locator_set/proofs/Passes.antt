@@ -1,14 +1,15 @@
 -- The pass over a set, turn by turn. Assumes nothing.
 use mathlib.Core.Path.{_≡_, refl, ap, sym, _∙_}
 use mathlib.Core.Bool.{Bool, true, false, cond, _||_, or-true}
-use mathlib.Core.List.{List, [], _∷_, _++_, map}
-use Prim.Native.Nat.{ℕ, zero, suc, _+_, _-_, _<_, _≤_}
+use mathlib.Core.List.{List, [], _∷_, map}
+use Prim.Native.Nat.{ℕ, suc, _+_, _-_, _<_, _≤_}
 use native.Mathlib.Omega.{arith}
 use native.Mathlib.Numerals.{add-one}
-use lib.Dec.{ltb, eqb}
-use lib.ListN.{length, set, drop, length-set, length-map}
+use lib.Dec.{ltb}
+use lib.ListN.{length, set, length-set, length-map}
 use lib.Seq.{sets, sets-eq}
 use borrow.Author.Tests.{lt-ltb, le-ltb, ltb-false, eq-eqb, ne-eqb}
+use Rattle.refusal.specs.declared.Refusal.{Refusal}
 use Rattle.boolean.proofs.Laws.{or-false-left}
 use Rattle.octets.specs.Records.{records, some}
 use Rattle.octets.proofs.Runs.{records-more, records-none}
@@ -18,11 +19,17 @@ use Rattle.locator.specs.declared.ListedLocator.{ListedLocator}
 use Rattle.locator_set.specs.declared.LocatorSet.{LocatorSet}
 use Rattle.locator_set.specs.declared.SetVerdict.the-variants.{Holds}
 use Rattle.locator.specs.declared.LocatorStep.{LocatorStep}
-use Rattle.locator.specs.declared.LocatorStep.the-variants.{Listed, Illegal}
+use Rattle.locator.specs.declared.LocatorStep.the-variants.{Listed, Refused}
 use Rattle.locator.specs.Locators.{places, preferredAt, listedAddress, nextLocator, illegalAt, listedAt, locatorStepAt}
-use Rattle.locator_set.specs.Sets.{setLimit, twice, mark, marks, unfit, refusal6, blanks, listedOf, padded, refusedSet, setOf, addresses}
-use Rattle.locator.proofs.Entries.{lies-within, is-listed, is-illegal}
+use Rattle.locator_set.specs.Sets.{setLimit, twice, mark, marks, blanks, listedOf, padded, refusedSet, setOf}
+use Rattle.locator_set.specs.Arrays.{addresses}
+use Rattle.locator.proofs.Entries.{lies-within, is-listed, is-refused}
 use Rattle.locator_set.proofs.Earlier.{addresses-store}
+
+-- refusal 6 by the locators at the places `ats`, after `count` others that have the addresses `before` and `marked` times P
+unfoldable pub unfit : List ℕ → (count : ℕ) → List Address → (marked : ℕ) → List ℕ → Bool
+unfit s count before marked ats =
+    ltb setLimit (count + length ats) || (some (illegalAt s) ats || (twice s before ats || ltb 1 (marks s marked ats)))
 
 -- the answer by the locators at the places `ats`, after `count` others that `listed` holds, with the addresses `before` and `marked` times P
 unfoldable pub judged : List ℕ → (count : ℕ) → List Address → (marked : ℕ) → List ListedLocator → List ℕ → LocatorSet
@@ -55,26 +62,30 @@ module _ (s : List ℕ) (count : ℕ) (before : List Address) (marked : ℕ) (li
   unfolding judged unfit some twice marks
   judged-end h = rw (le-ltb setLimit (count + 0) (omega arith))
 
-at-most-eight : (s : List ℕ) → unfit s 0 [] 0 (places s) ≡ false → length (places s) ≤ setLimit
-unfolding unfit
-at-most-eight s e =
-    let f = ltb-false setLimit (0 + length (places s)) (or-false-left (ltb setLimit (0 + length (places s))) _ e) in
-    omega arith
-
 -- from the start: the stores leave the locators with blanks after them
 stored : (ls : List ListedLocator) → length ls ≤ setLimit → sets blanks 0 ls ≡ padded ls
 stored ls h = let e : 0 + length ls ≡ length ls = omega arith in sets-eq ls blanks 0 (omega arith) ∙ rw e
 
+-- refusal 6 by all locators of a set
+abbrev unfitSet : List ℕ → Bool
+unfitSet s =
+    ltb setLimit (length (places s)) || (some (illegalAt s) (places s) || (twice s [] (places s) || ltb 1 (marks s 0 (places s))))
+
+unfit-start : (s : List ℕ) → unfit s 0 [] 0 (places s) ≡ unfitSet s
+unfolding unfit
+unfit-start s = let e : 0 + length (places s) ≡ length (places s) = omega arith in rw e
+
 from-start : (s : List ℕ) → (length s ≡ 0 → ⊥) → judged s 0 [] 0 blanks (places s) ≡ setOf s
 unfolding judged setOf
-from-start s h = rw (ne-eqb _ _ h) (go (unfit s 0 [] 0 (places s)) refl)
+from-start s h = rw (ne-eqb _ _ h, unfit-start s) (go (unfitSet s) refl)
   where
-    go : (b : Bool) → unfit s 0 [] 0 (places s) ≡ b
+    go : (b : Bool) → unfitSet s ≡ b
         → cond b refusedSet (record { verdict = Holds (0 + length (places s)); listed = sets blanks 0 (listedOf s) })
         ≡ cond b refusedSet (record { verdict = Holds (length (places s)); listed = padded (listedOf s) })
     go true e = refl
     go false e =
-        let few : length (places s) ≤ setLimit = at-most-eight s e in
+        let few : length (places s) ≤ setLimit =
+        ltb-false setLimit (length (places s)) (or-false-left (ltb setLimit (length (places s))) _ e) in
         let same : 0 + length (places s) ≡ length (places s) = omega arith in
         rw (same, stored (listedOf s) (rw (length-map (places s) (listedAt s)) few))
 
@@ -131,9 +142,9 @@ module _ (s : List ℕ) (listed : List ListedLocator) (highs lows : List ℕ) (c
     set-many e = sym (judged-many s count (addresses count highs lows) marked listed at _ (omega arith)) ∙ front h
 
     module _ {r : LocatorStep} (g : r ≡ locatorStepAt s at) where
-      pub set-illegal : r ≡ Illegal → refusedSet ≡ setOf s
+      pub set-illegal : {why : Refusal} → r ≡ Refused why → refusedSet ≡ setOf s
       set-illegal e =
-          sym (judged-illegal s count (addresses count highs lows) marked listed at _ (is-illegal (illegalAt s at) (listedAt s at) (nextLocator s at) (sym e ∙ g)))
+          sym (judged-illegal s count (addresses count highs lows) marked listed at _ (is-refused (illegalAt s at) (listedAt s at) (nextLocator s at) (sym e ∙ g)))
           ∙ front h
 
       got : {l : ListedLocator} {n : ℕ} → r ≡ Listed l n → (illegalAt s at ≡ false) × ((l ≡ listedAt s at) × (n ≡ nextLocator s at))

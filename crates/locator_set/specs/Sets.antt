@@ -1,16 +1,15 @@
 -- The locators of a set, and refusal 6. Here s is the bytes of a LOCATOR_SET.
-use Prim.Native.Nat.{ℕ, zero, suc, _+_}
-use mathlib.Core.Bool.{Bool, true, false, cond, _||_}
+use Prim.Native.Nat.{ℕ, _+_}
+use mathlib.Core.Bool.{Bool, false, cond, _||_}
 use mathlib.Core.List.{List, [], _∷_, _++_, map}
 use lib.Dec.{ltb, eqb}
-use lib.ListN.{length, drop, replicate, getD}
+use lib.ListN.{length, drop, replicate}
 use Rattle.refusal.specs.Table.{refusal}
 use Rattle.octets.specs.Records.{some}
 use Rattle.address.specs.Rules.{sameAddress}
 use Rattle.address.specs.declared.Address.{Address}
 use Rattle.locator.specs.Locators.{places, preferredAt, listedAddress, illegalAt, listedAt}
 use Rattle.locator.specs.declared.ListedLocator.{ListedLocator}
-use Rattle.locator_set.specs.declared.SetVerdict.{SetVerdict}
 use Rattle.locator_set.specs.declared.SetVerdict.the-variants.{RefusedSet, Holds}
 use Rattle.locator_set.specs.declared.LocatorSet.{LocatorSet}
 
@@ -32,16 +31,12 @@ unfoldable pub marks : List ℕ → (before : ℕ) → List ℕ → ℕ
 marks s before [] = before
 marks s before (at ∷ ats) = marks s (before + mark (preferredAt s at)) ats
 
--- refusal 6 by the locators at the places `ats`, after `count` others that have the addresses `before` and `marked` times P: "over 8, not
--- filled exactly, unknown traffic or locator type, wrong length, lifetime 0, address not legal, an address twice, P twice". A set is not
--- filled exactly where its last locator runs past its end
-unfoldable pub unfit : List ℕ → (count : ℕ) → List Address → (marked : ℕ) → List ℕ → Bool
-unfit s count before marked ats =
-    ltb setLimit (count + length ats) || (some (illegalAt s) ats || (twice s before ats || ltb 1 (marks s marked ats)))
-
--- refusal 6: "set empty", or the above
+-- refusal 6: "set empty, over 8, not filled exactly, unknown traffic or locator type, wrong length, lifetime 0, address not legal, an
+-- address twice, P twice". A set is not filled exactly where its last locator runs past its end, which `illegalAt` judges
 abbrev pub refusal6 : List ℕ → Bool
-refusal6 s = eqb (length s) 0 || unfit s 0 [] 0 (places s)
+refusal6 s =
+    eqb (length s) 0
+    || (ltb setLimit (length (places s)) || (some (illegalAt s) (places s) || (twice s [] (places s) || ltb 1 (marks s 0 (places s)))))
 
 -- what stands in the answer's array where no locator does
 abbrev pub blank : ListedLocator
@@ -65,8 +60,3 @@ refusedSet = record { verdict = RefusedSet (refusal 6); listed = blanks }
 -- what is read of a set: refusal 6, or how many locators there are, and they
 unfoldable pub setOf : List ℕ → LocatorSet
 setOf s = cond (refusal6 s) refusedSet (record { verdict = Holds (length (places s)); listed = padded (listedOf s) })
-
--- the first n of the addresses that two arrays hold by their halves, the last one first
-unfoldable pub addresses : ℕ → (highs lows : List ℕ) → List Address
-addresses zero highs lows = []
-addresses (suc n) highs lows = record { high = getD highs n 0; low = getD lows n 0 } ∷ addresses n highs lows

@@ -7,7 +7,11 @@ ghost use mathlib.Core.Path.{_≡_};
 ghost use Prim.Native.Nat.{_≤_};
 ghost use Rattle.octets.specs.Records.{some};
 ghost use Rattle.address.specs.Rules.{sameAddress};
-ghost use Rattle.locator_set.specs.Sets.{mark, blanks, addresses, refusedSet, setOf};
+ghost use Rattle.locator_set.specs.Sets.{setLimit, mark, blanks, refusedSet, setOf};
+ghost use Rattle.locator_set.specs.Arrays.{addresses};
+
+// The locators that a set may have.
+pub const SET_LIMIT: usize = 8;
 
 // Refusal 6, or how many locators a set holds.
 pub enum SetVerdict {
@@ -18,12 +22,12 @@ pub enum SetVerdict {
 // What is read of a set. The array stands beside the enum: the locators that the set holds come first, in order, and blanks after them.
 pub struct LocatorSet {
     pub verdict: SetVerdict,
-    pub listed: [ListedLocator; 8],
+    pub listed: [ListedLocator; SET_LIMIT],
 }
 
 // The address is among the first `count` that the arrays hold.
-fn held(highs: &[u64; 8], lows: &[u64; 8], count: usize, address: Address) -> bool
-    requires { ⌜ count ≤ 8 ⌝ }
+fn held(highs: &[u64; SET_LIMIT], lows: &[u64; SET_LIMIT], count: usize, address: Address) -> bool
+    requires { ⌜ count ≤ setLimit ⌝ }
     ensures { λ r. ⌜ r ≡ some (sameAddress address) (addresses count (now (highs .entry)) (now (lows .entry))) ⌝ }
 {
     let mut k = count;
@@ -48,7 +52,7 @@ fn mark_of(preferred: bool) -> usize
 }
 
 // An array that lists no locator.
-pub fn no_locators() -> [ListedLocator; 8]
+pub fn no_locators() -> [ListedLocator; SET_LIMIT]
     ensures { λ r. ⌜ r ≡ blanks ⌝ }
 {
     let address = Address { high: 0, low: 0 };
@@ -60,7 +64,7 @@ pub fn no_locators() -> [ListedLocator; 8]
         kind: 0,
         preferred: false,
     };
-    [blank; 8]
+    [blank; SET_LIMIT]
 }
 
 // Refusal 6.
@@ -82,13 +86,13 @@ pub fn read_set(s: &[u8]) -> LocatorSet
         return refuse_set();
     }
     let mut listed = no_locators();
-    let mut highs = [0u64; 8];
-    let mut lows = [0u64; 8];
+    let mut highs = [0u64; SET_LIMIT];
+    let mut lows = [0u64; SET_LIMIT];
     let mut count: usize = 0;
     let mut marked: usize = 0;
     let mut at: usize = 0;
     while at < s.len() {
-        if count == 8 {
+        if count == SET_LIMIT {
             return refuse_set();
         }
         let step = locator::locator_step(s, at);

@@ -2,27 +2,24 @@
 use mathlib.Core.Path.{_≡_, refl, ap, sym, _∙_}
 use mathlib.Core.Bool.{Bool, true, false, cond}
 use mathlib.Core.List.{List}
-use Prim.Native.Nat.{ℕ, _+_, _≤_}
+use Prim.Native.Nat.{ℕ}
 use native.Mathlib.Omega.{arith}
 use lib.ListN.{length}
 use Rattle.refusal.specs.declared.Refusal.{Refusal}
 use Rattle.refusal.specs.Table.{refusal}
-use Rattle.octets.specs.Records.{some}
 use Rattle.parameter.specs.Types.{espInfo, locatorSet}
-use Rattle.frame.specs.Parameters.{parameters}
 use Rattle.frame.specs.Survey.{surveyOf, refusal3, refusal4}
 use Rattle.frame.specs.declared.Survey.{Survey}
 use Rattle.frame.proofs.Within.{lies-within}
 use Rattle.locator.specs.declared.ListedLocator.{ListedLocator}
 use Rattle.locator_set.specs.declared.LocatorSet.{LocatorSet}
-use Rattle.locator_set.specs.declared.SetVerdict.{SetVerdict}
 use Rattle.locator_set.specs.declared.SetVerdict.the-variants.{RefusedSet, Holds}
 use Rattle.locator.specs.Locators.{places}
-use Rattle.locator_set.specs.Sets.{blanks, listedOf, padded, refusal6, refusedSet, setOf}
+use Rattle.locator_set.specs.Sets.{listedOf, padded, refusal6, refusedSet, setOf}
 use Rattle.packet.specs.declared.Message.the-variants.{Move}
-use Rattle.packet.specs.declared.Reading.{Reading}
 use Rattle.packet.specs.Kinds.{isMove, isReply}
-use Rattle.packet.specs.Readings.{fieldsOf, setBytes, refusing, refused, moveOf, replyOf, kindOf, Parts, readingOf}
+use Rattle.packet.specs.Readings.{fieldsOf, setBytes, refusing, refused, moveOf, replyOf, kindOf, readingOf}
+use Rattle.packet.specs.Parts.{Parts}
 
 -- ---- a Move's set, by the verdict on it
 -- which case of a set's definition a verdict is

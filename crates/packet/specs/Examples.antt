@@ -11,13 +11,11 @@ use Rattle.parameter.specs.Types.{espInfo, locatorSet, seq, ack, echoRequestSig
 use Rattle.parameter.specs.Parameters.{takes}
 use Rattle.frame.specs.Parameters.{falls}
 use Rattle.frame.specs.Survey.{occurs}
-use Rattle.locator.specs.declared.ListedLocator.{ListedLocator}
 use Rattle.locator.specs.Locators.{illForm}
-use Rattle.locator_set.specs.Sets.{twice, marks, unfit, padded}
+use Rattle.locator_set.specs.Sets.{twice, marks, padded}
 use Rattle.packet.specs.declared.EchoResponse.the-variants.{Absent, Nonce, OtherLength}
 use Rattle.packet.specs.declared.Message.{Message}
 use Rattle.packet.specs.declared.Message.the-variants.{Refused, Move, Reply}
-use Rattle.packet.specs.declared.Reading.{Reading}
 use Rattle.packet.specs.Kinds.{isMove, isReply}
 use Rattle.packet.specs.Readings.{kindOf, readingOf}
 
@@ -124,7 +122,7 @@ table =
 
 -- every row agrees with the definitions
 agrees : map (λ (row : Row). readingOf (row .packet) .message) table ≡ map (λ (row : Row). row .says) table
-unfolding several records some legal refusedType wrongLength falls occurs illForm twice marks unfit isMove isReply kindOf readingOf
+unfolding several records some legal refusedType wrongLength falls occurs illForm twice marks isMove isReply kindOf readingOf
 agrees = refl
 
 -- a whole reading: a Move with an echo response and a second locator of type 1, and what it lists
@@ -151,5 +149,5 @@ whole : readingOf (packetOf (esp ++ (parameter locatorSet (plain 1 ++ bound) ++ 
       }
       ∷ []);
 }
-unfolding records some legal refusedType wrongLength falls occurs illForm twice marks unfit isMove isReply kindOf readingOf
+unfolding records some legal refusedType wrongLength falls occurs illForm twice marks isMove isReply kindOf readingOf
 whole = refl

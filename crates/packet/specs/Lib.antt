@@ -1,3 +1,4 @@
 pub mod Kinds
 pub mod Readings
+pub mod Parts
 pub mod Examples

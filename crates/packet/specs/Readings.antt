@@ -1,12 +1,13 @@
 -- What is read of a packet: the first of the refusals 3 to 6 that it earns, or a Move or a Reply with all that later rules ask of it.
-use Prim.Native.Nat.{ℕ, _+_, _≤_}
-use mathlib.Core.Bool.{Bool, cond}
+use Prim.Native.Nat.{ℕ, _+_}
+use mathlib.Core.Bool.{cond}
 use mathlib.Core.List.{List}
 use lib.Dec.{eqb}
 use lib.ListN.{length, take, drop}
 use Rattle.refusal.specs.declared.Refusal.{Refusal}
 use Rattle.refusal.specs.Table.{refusal}
 use Rattle.octets.specs.Numbers.{numberAt}
+use Rattle.parameter.specs.Types.{nonceSize}
 use Rattle.frame.specs.Survey.{surveyOf, refusal3, refusal4}
 use Rattle.frame.specs.declared.Occurrence.{Occurrence}
 use Rattle.frame.specs.declared.Survey.{Survey}
@@ -16,13 +17,12 @@ use Rattle.packet.specs.Kinds.{isMove, isReply}
 use Rattle.packet.specs.declared.EchoResponse.{EchoResponse}
 use Rattle.packet.specs.declared.EchoResponse.the-variants.{Absent, Nonce, OtherLength}
 use Rattle.packet.specs.declared.MoveFields.{MoveFields}
-use Rattle.packet.specs.declared.Message.{Message}
 use Rattle.packet.specs.declared.Message.the-variants.{Refused, Move, Reply}
 use Rattle.packet.specs.declared.Reading.{Reading}
 
 -- "An echo response of 8 bytes": its nonce, "as one 64-bit number". One of another length is still an echo response, and matches nothing
 abbrev pub echoOf : List ℕ → Occurrence → EchoResponse
-echoOf s echo = cond (eqb (echo .times) 0) Absent (cond (eqb (echo .len) 8) (Nonce (numberAt s (echo .body) 8)) OtherLength)
+echoOf s echo = cond (eqb (echo .times) 0) Absent (cond (eqb (echo .len) nonceSize) (Nonce (numberAt s (echo .body) nonceSize)) OtherLength)
 
 -- ESP_INFO: "reserved 16 bits, KEYMAT Index 16, OLD SPI 32, NEW SPI 32". SEQ: the Update ID
 abbrev pub fieldsOf : List ℕ → Survey → (count : ℕ) → MoveFields
@@ -60,11 +60,6 @@ replyOf s seen = record { message = Reply (echoOf s (seen .echo)); listed = blan
 -- refusal 5, "neither Move nor Reply", or what is read of the one or the other
 unfoldable pub kindOf : List ℕ → Survey → Reading
 kindOf s seen = cond (isMove seen) (moveOf s seen) (cond (isReply seen) (replyOf s seen) (refused 5))
-
--- the parts of a packet that are read as a Move's lie within it: what the private functions of this crate require
-pub record Parts (s : List ℕ) (seen : Survey) : Type 0 where
-  pub esp : seen .esp .body ≤ length s
-  pub set : seen .set .body + seen .set .len ≤ length s
 
 -- refusals 3 to 6 are tried in this order
 unfoldable pub readingOf : List ℕ → Reading

@@ -1,16 +1,18 @@
 // What a packet says: refusals 3 to 6, or a Move or a Reply with all that the layers above ask of it, so that none of them reads packet bytes.
-// Depends on frame, locator_set, locator, octets, boolean, refusal.
+// Depends on frame, parameter, locator_set, locator, octets, boolean, refusal.
 use frame::Occurrence;
 use frame::Survey;
 use frame::Walked;
 use locator::ListedLocator;
+use locator_set::SET_LIMIT;
 use locator_set::SetVerdict;
 use refusal::Refusal;
 ghost use mathlib.Core.Path.{_≡_};
 ghost use Prim.Native.Nat.{_+_, _≤_};
 ghost use lib.ListN.{length};
 ghost use Rattle.packet.specs.Kinds.{isMove, isReply};
-ghost use Rattle.packet.specs.Readings.{echoOf, fieldsOf, refusing, moveOf, kindOf, Parts, readingOf};
+ghost use Rattle.packet.specs.Readings.{echoOf, fieldsOf, refusing, moveOf, kindOf, readingOf};
+ghost use Rattle.packet.specs.Parts.{Parts};
 
 // An echo response: none, the nonce of one that is 8 bytes long, or one of another length, which matches no nonce.
 pub enum EchoResponse {
@@ -39,7 +41,7 @@ pub enum Message {
 // What is read of a packet. The locators that a Move lists come first in the array, in order, and blanks after them; else all are blank.
 pub struct Reading {
     pub message: Message,
-    pub listed: [ListedLocator; 8],
+    pub listed: [ListedLocator; SET_LIMIT],
 }
 
 // The packet is refused.
@@ -60,7 +62,7 @@ fn echo_of(packet: &[u8], echo: Occurrence) -> EchoResponse
     if echo.times == 0 {
         return EchoResponse::Absent;
     }
-    if echo.len != 8 {
+    if echo.len != parameter::NONCE_SIZE {
         return EchoResponse::OtherLength;
     }
     EchoResponse::Nonce(octets::u64_at(packet, echo.body))

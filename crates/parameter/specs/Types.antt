@@ -5,6 +5,7 @@ use mathlib.Core.List.{List, [], _∷_}
 use lib.Dec.{eqb}
 use Rattle.octets.specs.Records.{some}
 
+-- the known types, by their names
 abbrev pub espInfo : ℕ
 espInfo = 65
 
@@ -40,8 +41,24 @@ received = espInfo ∷ locatorSet ∷ seq ∷ ack ∷ hostId ∷ echoResponseSig
 unfoldable pub refusedType : ℕ → Bool
 refusedType kind = eqb kind echoRequestSigned || (eqb (kind % 2) 1 && not (some (eqb kind) received))
 
--- "ESP_INFO 65 has L = 12", "SEQ 385 has L = 4", "ACK 449 has L a positive multiple of 4": another length is wrong
+-- "ESP_INFO 65 has L = 12"
+abbrev pub espInfoLength : ℕ
+espInfoLength = 12
+
+-- "SEQ 385 has L = 4"
+abbrev pub seqLength : ℕ
+seqLength = 4
+
+-- "ACK 449 has L a positive multiple of 4"
+abbrev pub ackUnit : ℕ
+ackUnit = 4
+
+-- "nonces of 8 bytes"
+abbrev pub nonceSize : ℕ
+nonceSize = 8
+
+-- another length is wrong for these three
 unfoldable pub wrongLength : ℕ → ℕ → Bool
 wrongLength kind len =
-    cond (eqb kind espInfo) (not (eqb len 12))
-    (cond (eqb kind seq) (not (eqb len 4)) (cond (eqb kind ack) (eqb len 0 || not (eqb (len % 4) 0)) false))
+    cond (eqb kind espInfo) (not (eqb len espInfoLength))
+    (cond (eqb kind seq) (not (eqb len seqLength)) (cond (eqb kind ack) (eqb len 0 || not (eqb (len % ackUnit) 0)) false))

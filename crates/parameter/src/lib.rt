@@ -23,6 +23,19 @@ pub const HIP_MAC: usize = 61505;
 
 pub const HIP_SIGNATURE: usize = 61697;
 
+// The lengths L that two types must have, and the unit of an ACK's.
+const ESP_INFO_LENGTH: usize = 12;
+
+const SEQ_LENGTH: usize = 4;
+
+const ACK_UNIT: usize = 4;
+
+// The bytes of a nonce.
+pub const NONCE_SIZE: usize = 8;
+
+// A parameter takes a multiple of 8 bytes, so none takes less.
+const LEAST_SIZE: usize = 8;
+
 // A parameter: its type, its length L, where its L bytes start, and where the next parameter starts.
 pub struct Parameter {
     pub kind: usize,
@@ -31,7 +44,7 @@ pub struct Parameter {
     pub next: usize,
 }
 
-// What stands at a place of a packet.
+// What stands at a place of a packet: a parameter, the end, or what refusal 3 refuses.
 pub enum Step {
     Found(Parameter),
     End,
@@ -61,9 +74,9 @@ fn wrong_length(kind: usize, len: usize) -> bool
     ensures { λ r. ⌜ r ≡ wrongLength kind len ⌝ }
 {
     match kind {
-        ESP_INFO => len != 12,
-        SEQ => len != 4,
-        ACK => boolean::either(len == 0, len % 4 != 0),
+        ESP_INFO => len != ESP_INFO_LENGTH,
+        SEQ => len != SEQ_LENGTH,
+        ACK => boolean::either(len == 0, len % ACK_UNIT != 0),
         _ => false,
     }
 }
@@ -76,7 +89,7 @@ pub fn step_at(packet: &[u8], at: usize) -> Step
         return Step::End;
     }
     let left = packet.len() - at;
-    if left < 8 {
+    if left < LEAST_SIZE {
         return Step::Refused(Refusal::Malformed);
     }
     let kind = octets::u16_at(packet, at);

@@ -2,11 +2,10 @@
 use mathlib.Core.Path.{ap, sym, _∙_}
 use native.Mathlib.Omega.{arith}
 use Rattle.frame.specs.declared.Survey.{Survey}
-use Rattle.parameter.specs.Types.{echoResponseSigned}
+use Rattle.parameter.specs.Types.{echoResponseSigned, nonceSize}
 use Rattle.frame.proofs.Answers.{walk-rejected, walk-complete}
 use Rattle.frame.proofs.Within.{lies-within}
-use Rattle.echo.specs.declared.Place.{Place}
-use Rattle.echo.specs.Parts.{nonceSize, echoes}
+use Rattle.echo.specs.Parts.{echoes}
 use Rattle.echo.proofs.Places.{place-short, place-refused, place-missed, place-found}
 use borrow.Author.Needs.{needs}
 use Rattle.echo.proofs.echo_place.Statement.{statement}

@@ -3,7 +3,8 @@ use mathlib.Core.Path.{_≡_, ap, _∙_}
 use native.Mathlib.Omega.{arith}
 use Prim.Native.Nat.{ℕ, _+_, _-_}
 use Rattle.echo.proofs.Places.{no-echo, other-length, by-bytes}
-use Rattle.echo.specs.Parts.{nonceSize, sameBytes, partAt}
+use Rattle.parameter.specs.Types.{nonceSize}
+use Rattle.echo.specs.Parts.{sameBytes, partAt}
 use borrow.Author.Needs.{needs}
 use Rattle.echo.proofs.is_echo.Statement.{statement}
 use Rattle.echo.proofs.is_echo.Tie as tie

@@ -15,7 +15,7 @@ returns : tie.Need-returns
 returns c = let a = c .before .before .args in step-short (a .s .now) (a .at) (omega arith)
 
 sub-if2 : tie.Need-sub-if2
-sub-if2 c = search needs
+sub-if2 c = omega arith
 
 returns-2 : tie.Need-returns-2
 returns-2 c = let a = c .before .before .before .args in step-short (a .s .now) (a .at) (c .if2 .taken)
@@ -27,28 +27,28 @@ returns-3 : tie.Need-returns-3
 returns-3 c = let a = c .before .before .before .before .before .args in step-ill (a .s .now) (a .at) (sym (c .before .ill-form .ensures) ∙ c .if3 .taken)
 
 add-place : tie.Need-add-place
-add-place c = search needs
+add-place c = omega arith
 
 add-byte : tie.Need-add-byte
-add-byte c = search needs
+add-byte c = omega arith
 
 shared-slice-read-byte : tie.Need-shared-slice-read-byte
-shared-slice-read-byte c = search needs
+shared-slice-read-byte c = omega arith
 
 byte-requires : tie.Need-byte-requires
-byte-requires c κs = search needs
+byte-requires c κs = tt
 
 mul-place : tie.Need-mul-place
-mul-place c = search needs
+mul-place c = omega arith
 
 add-place-2 : tie.Need-add-place-2
-add-place-2 c = search needs
+add-place-2 c = omega arith
 
 address-at-requires : tie.Need-address-at-requires
-address-at-requires c κs = search needs
+address-at-requires c κs = tt
 
 is-legal-requires : tie.Need-is-legal-requires
-is-legal-requires c κs = search needs
+is-legal-requires c κs = tt
 
 returns-4 : tie.Need-returns-4
 returns-4 c =
@@ -58,46 +58,46 @@ returns-4 c =
     step-illegal (a .s .now) (a .at) (sym (ap legal address) ∙ (sym (c .before .is-legal .ensures) ∙ not-true _ (c .if4 .taken)))
 
 add-u32-at : tie.Need-add-u32-at
-add-u32-at c = search needs
+add-u32-at c = omega arith
 
 u32-at-requires : tie.Need-u32-at-requires
-u32-at-requires c κs = search needs
+u32-at-requires c κs = tt
 
 spi-at-requires : tie.Need-spi-at-requires
 spi-at-requires c κs = search needs
 
-shared-slice-read-t12 : tie.Need-shared-slice-read-t12
-shared-slice-read-t12 c = search needs
+shared-slice-read-t15 : tie.Need-shared-slice-read-t15
+shared-slice-read-t15 c = omega arith
 
 add-t6 : tie.Need-add-t6
-add-t6 c = search needs
+add-t6 c = omega arith
 
-shared-slice-read-t19 : tie.Need-shared-slice-read-t19
-shared-slice-read-t19 c = search needs
+shared-slice-read-t23 : tie.Need-shared-slice-read-t23
+shared-slice-read-t23 c = omega arith
 
-add-t8 : tie.Need-add-t8
-add-t8 c = search needs
+add-t9 : tie.Need-add-t9
+add-t9 c = omega arith
 
-shared-slice-read-t21 : tie.Need-shared-slice-read-t21
-shared-slice-read-t21 c = search needs
+shared-slice-read-t25 : tie.Need-shared-slice-read-t25
+shared-slice-read-t25 c = omega arith
 
-add-t10 : tie.Need-add-t10
-add-t10 c = search needs
+add-t13 : tie.Need-add-t13
+add-t13 c = omega arith
 
 add-byte-2 : tie.Need-add-byte-2
-add-byte-2 c = search needs
+add-byte-2 c = omega arith
 
 shared-slice-read-byte-2 : tie.Need-shared-slice-read-byte-2
-shared-slice-read-byte-2 c = search needs
+shared-slice-read-byte-2 c = omega arith
 
 byte-requires-2 : tie.Need-byte-requires-2
-byte-requires-2 c κs = search needs
+byte-requires-2 c κs = tt
 
-mul-t8 : tie.Need-mul-t8
-mul-t8 c = search needs
+mul-t9 : tie.Need-mul-t9
+mul-t9 c = omega arith
 
-add-t24 : tie.Need-add-t24
-add-t24 c = search needs
+add-t28 : tie.Need-add-t28
+add-t28 c = omega arith
 
 returns-5 : tie.Need-returns-5
 returns-5 c =
@@ -140,15 +140,15 @@ locator-step-spec =
     add-u32-at
     u32-at-requires
     spi-at-requires
-    shared-slice-read-t12
+    shared-slice-read-t15
     add-t6
-    shared-slice-read-t19
-    add-t8
-    shared-slice-read-t21
-    add-t10
+    shared-slice-read-t23
+    add-t9
+    shared-slice-read-t25
+    add-t13
     add-byte-2
     shared-slice-read-byte-2
     byte-requires-2
-    mul-t8
-    add-t24
+    mul-t9
+    add-t28
     returns-5)

@@ -4,7 +4,7 @@ use Prim.Native.Nat.{_≤_}
 use native.Mathlib.Omega.{arith}
 use Rattle.octets.specs.Records.{some}
 use Rattle.address.specs.Rules.{sameAddress}
-use Rattle.locator_set.specs.Sets.{addresses}
+use Rattle.locator_set.specs.Arrays.{addresses}
 use Rattle.locator_set.proofs.Earlier.{held-hit, held-miss, held-none}
 use Rattle.locator_set.proofs.held.Statement.{statement}
 use Rattle.locator_set.proofs.held.Tie as tie

@@ -1,7 +1,7 @@
 -- `locator_set::read_set` meets its contract. The loop's invariant: the locators from `at` on, after those that were read, give the set's answer.
 -- The measure is what is left of the set. Assumes nothing.
-use mathlib.Core.Path.{_≡_, refl, sym, _∙_, ap}
-use Prim.Native.Nat.{ℕ, _-_}
+use mathlib.Core.Path.{refl, sym, _∙_}
+use Prim.Native.Nat.{_-_}
 use native.Mathlib.Omega.{arith}
 use lib.ListN.{length}
 use borrow.Author.Needs.{needs}

@@ -1,6 +1,6 @@
 -- `packet::echo_of` meets its contract. Assumes nothing.
 use borrow.Author.Tests.{eq-eqb, ne-eqb}
-use mathlib.Core.Path.{ap, _∙_}
+use mathlib.Core.Path.{ap}
 use Rattle.packet.specs.declared.EchoResponse.the-variants.{Nonce}
 use borrow.Author.Needs.{needs}
 use Rattle.packet.proofs.echo_of.Statement.{statement}
