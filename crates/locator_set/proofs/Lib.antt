@@ -1,2 +1,3 @@
 pub mod Earlier
 pub mod Passes
+pub mod Listing

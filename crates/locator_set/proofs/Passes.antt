@@ -67,7 +67,7 @@ stored : (ls : List ListedLocator) → length ls ≤ setLimit → sets blanks 0 
 stored ls h = let e : 0 + length ls ≡ length ls = omega arith in sets-eq ls blanks 0 (omega arith) ∙ rw e
 
 -- refusal 6 by all locators of a set
-abbrev unfitSet : List ℕ → Bool
+abbrev pub unfitSet : List ℕ → Bool
 unfitSet s =
     ltb setLimit (length (places s)) || (some (illegalAt s) (places s) || (twice s [] (places s) || ltb 1 (marks s 0 (places s))))
 
