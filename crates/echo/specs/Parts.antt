@@ -1,4 +1,4 @@
--- "For the log: lent a packet and a nonce, the box hands back the packet's own part that holds the echo, its eight opaque bytes."
+-- For the log: of a packet and a nonce, "the packet's own part that holds the echo, its eight opaque bytes".
 use Prim.Native.Nat.{ℕ, _+_}
 use mathlib.Core.Path.{_≡_}
 use mathlib.Core.Bool.{Bool, true, false, not, cond, _&&_}

@@ -71,15 +71,15 @@ abbrev says : ℕ → Message
 says count = Move (record { keymat = 7; old = 0x1001; new = 0x1002; id = 9; count = count; echo = Absent })
 
 -- ---- the table: a packet, and what it says
-record Row : Type 0 where
+record Case : Type 0 where
   packet : List ℕ
   says : Message
 
 infixr 4 _gives_
-abbrev _gives_ : List ℕ → Message → Row
+abbrev _gives_ : List ℕ → Message → Case
 packet gives message = record { packet = packet; says = message }
 
-abbrev table : List Row
+abbrev table : List Case
 table =
     -- refusal 3: under 40 bytes, the header's rule, past the end, a falling type, a wrong L
     (replicate 39 0 gives Refused (refusal 3))
@@ -120,8 +120,8 @@ table =
     ∷ (packetOf (parameter echoResponseSigned (replicate 7 1)) gives Reply OtherLength)
     ∷ []
 
--- every row agrees with the definitions
-agrees : map (λ (row : Row). readingOf (row .packet) .message) table ≡ map (λ (row : Row). row .says) table
+-- every case agrees with the definitions
+agrees : map (λ (case : Case). readingOf (case .packet) .message) table ≡ map (λ (case : Case). case .says) table
 unfolding several records some legal refusedType wrongLength falls occurs illForm twice marks isMove isReply kindOf readingOf
 agrees = refl
 

@@ -1,4 +1,4 @@
--- The table "Why the box says no" of document 01: each refusal and its number.
+-- Document 01's table of refusals: each refusal and its number.
 use Prim.Native.Nat.{ℕ}
 use mathlib.Core.List.{List, [], _∷_}
 use lib.ListN.{getD}
@@ -25,9 +25,9 @@ numberOf NoPath = 14
 numberOf NoCredit = 15
 numberOf BadStart = 16
 
--- the rows of the table, from 0
-abbrev pub rows : List Refusal
-rows =
+-- the refusals in the order of the table, from 0
+abbrev pub refusals : List Refusal
+refusals =
     BadAssociation
     ∷ ShortReplyBuffer
     ∷ NotAuthentic
@@ -49,4 +49,4 @@ rows =
 
 -- the refusal of a number: definitions of other crates name a refusal by the table's number, as `refusal 3`
 abbrev pub refusal : ℕ → Refusal
-refusal n = getD rows n BadAssociation
+refusal n = getD refusals n BadAssociation

@@ -1,8 +1,8 @@
-// The reasons for saying no: the table "Why the box says no" of document 01, as one enum for every call. Depends on nothing.
+// Document 01's table of refusals, as one enum for every call. Depends on nothing.
 ghost use mathlib.Core.Path.{_≡_};
 ghost use Rattle.refusal.specs.Table.{numberOf};
 
-// One case for each row of the table, in its order, from 0. `numberOf` in specs/ has the numbers.
+// One case for each refusal of the table, in its order, from 0. `numberOf` in specs/ has the numbers.
 pub enum Refusal {
     BadAssociation,
     ShortReplyBuffer,
