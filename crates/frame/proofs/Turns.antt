@@ -13,7 +13,7 @@ use Rattle.refusal.specs.Table.{refusal}
 use Rattle.octets.specs.Records.{some, records}
 use Rattle.octets.proofs.Runs.{records-more, records-none}
 use Rattle.parameter.specs.declared.Parameter.{Parameter}
-use Rattle.parameter.proofs.Steps.{broken, at-end, at-refused, at-found}
+use Rattle.parameter.proofs.Steps.{at-end, at-refused, at-found}
 use Rattle.frame.specs.declared.Survey.{Survey}
 use Rattle.frame.specs.declared.Walked.{Walked}
 use Rattle.frame.specs.declared.Walked.the-variants.{Rejected, Complete}
@@ -21,7 +21,7 @@ use Rattle.parameter.specs.declared.Step.{Step}
 use Rattle.parameter.specs.declared.Step.the-variants.{Found, End, Refused}
 use Rattle.frame.specs.Header.{headerSize, headerHolds}
 use Rattle.parameter.specs.Types.{espInfo, locatorSet, seq, ack, echoResponseSigned}
-use Rattle.parameter.specs.Parameters.{parameterAt, pastEnd, wrong, stepAt}
+use Rattle.parameter.specs.Parameters.{parameterAt, pastEnd, wrong, stepAt, broken}
 use Rattle.frame.specs.Parameters.{falls, illFormed}
 use Rattle.frame.specs.Survey.{never, occurs, refused, walkOf}
 use Rattle.frame.specs.Turn.{noted}
@@ -53,7 +53,7 @@ unknown-on n true false = refl
 unknown-on n false x = refl
 
 module _ (s : List ℕ) (last : ℕ) (seen : Survey) (p : Parameter) (ps : List Parameter) where
-  judged-broken : (pastEnd s p || wrong p) ≡ true → judged s last seen (p ∷ ps) ≡ Rejected (refusal 3)
+  judged-broken : broken s p ≡ true → judged s last seen (p ∷ ps) ≡ Rejected (refusal 3)
   unfolding judged some falls
   judged-broken h = go (pastEnd s p) (wrong p) h
     where
@@ -113,7 +113,7 @@ module _ (s : List ℕ) (seen : Survey) (last at : ℕ) (w : Walking s seen last
       let q = at-found s at g e in
       sym (judged-falls s last seen (parameterAt s at) _ (lt-ltb _ _ (rw (q .1 .1) at f))) ∙ front (q .0)
 
-  goes-at : at < length s → broken s at ≡ false → last ≤ parameterAt s at .kind
+  goes-at : at < length s → broken s (parameterAt s at) ≡ false → last ≤ parameterAt s at .kind
       → Walking s (noted seen (parameterAt s at .kind) (parameterAt s at .body) (parameterAt s at .len)) (parameterAt s at .kind) (parameterAt s at .next)
   goes-at h b f = record {
     steps = w .steps - 1;

@@ -7,30 +7,30 @@ use native.Mathlib.Omega.{arith}
 use lib.ListN.{length}
 use borrow.Author.Tests.{eqb-true, not-false}
 use Rattle.boolean.proofs.Laws.{and-true-left, and-true-right}
-use Rattle.parameter.specs.Types.{espInfo, seq, wrongLength}
-use Rattle.frame.specs.Survey.{surveyOf, refusal3}
+use Rattle.parameter.specs.Types.{espInfo, seq, espInfoLength, seqLength, wrongLength}
+use Rattle.frame.specs.Parameters.{parameters}
+use Rattle.frame.specs.Survey.{never, occurs, surveyOf, refusal3}
 use Rattle.frame.proofs.Within.{lies-within, length-right}
 use Rattle.packet.specs.Kinds.{exactlyOne, isMove}
 
 module _ (s : List ℕ) (h : refusal3 s ≡ false) where
-  esp-fits : surveyOf s .esp .times ≡ 1 → surveyOf s .esp .body + 12 ≤ length s
-  unfolding wrongLength
-  esp-fits t =
-      let twelve = eqb-true (surveyOf s .esp .len) 12 (not-false _ (length-right s espInfo h (λ e. omega arith))) in
-      omega (arith, lies-within s espInfo h)
-
-  seq-fits : surveyOf s .seq .times ≡ 1 → surveyOf s .seq .body + 4 ≤ length s
-  unfolding wrongLength
-  seq-fits t =
-      let four = eqb-true (surveyOf s .seq .len) 4 (not-false _ (length-right s seq h (λ e. omega arith))) in
-      omega (arith, lies-within s seq h)
+  -- a type that occurs once, and whose length must be n
+  fits : (type n : ℕ) → ((len : ℕ) → wrongLength type len ≡ false → len ≡ n) → occurs type never (parameters s) .times ≡ 1
+      → occurs type never (parameters s) .body + n ≤ length s
+  fits type n right once =
+      let seen = occurs type never (parameters s) in
+      let long = right (seen .len) (length-right s type h (λ e. omega arith)) in
+      omega (arith, lies-within s type h)
 
   -- the 12 bytes of ESP_INFO and the 4 of SEQ
-  pub move-fits : isMove (surveyOf s) ≡ true → (surveyOf s .esp .body + 12 ≤ length s) × (surveyOf s .seq .body + 4 ≤ length s)
-  unfolding isMove
+  pub move-fits : isMove (surveyOf s) ≡ true
+      → (surveyOf s .esp .body + espInfoLength ≤ length s) × (surveyOf s .seq .body + seqLength ≤ length s)
+  unfolding isMove wrongLength
   move-fits m =
       let rest = and-true-right (exactlyOne (surveyOf s .esp)) _ m in
-      let last = and-true-right (exactlyOne (surveyOf s .set)) _ rest in (
-        esp-fits (eqb-true _ 1 (and-true-left (exactlyOne (surveyOf s .esp)) _ m)),
-        seq-fits (eqb-true _ 1 (and-true-left (exactlyOne (surveyOf s .seq)) _ last)),
+      let last = and-true-right (exactlyOne (surveyOf s .set)) _ rest in
+      let esp-once = eqb-true (surveyOf s .esp .times) 1 (and-true-left (exactlyOne (surveyOf s .esp)) _ m) in
+      let seq-once = eqb-true (surveyOf s .seq .times) 1 (and-true-left (exactlyOne (surveyOf s .seq)) _ last) in (
+        fits espInfo espInfoLength (λ len e. eqb-true len espInfoLength (not-false _ e)) esp-once,
+        fits seq seqLength (λ len e. eqb-true len seqLength (not-false _ e)) seq-once,
       )

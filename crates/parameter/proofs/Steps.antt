@@ -1,6 +1,6 @@
 -- One step of the walk: which case of the definition each test leads to, and what an answer says of the place. Assumes nothing.
 use mathlib.Core.Path.{_≡_, refl, sym, _∙_}
-use mathlib.Core.Bool.{Bool, true, false, cond, _||_, or-true}
+use mathlib.Core.Bool.{Bool, true, false, cond, or-true}
 use mathlib.Core.List.{List}
 use Prim.Native.Nat.{ℕ, _<_, _≤_}
 use lib.Dec.{leb}
@@ -11,7 +11,7 @@ use Rattle.refusal.specs.Table.{refusal}
 use Rattle.parameter.specs.declared.Parameter.{Parameter}
 use Rattle.parameter.specs.declared.Step.{Step}
 use Rattle.parameter.specs.declared.Step.the-variants.{Found, End, Refused}
-use Rattle.parameter.specs.Parameters.{parameterAt, pastEnd, wrong, stepAt}
+use Rattle.parameter.specs.Parameters.{parameterAt, wrong, stepAt, broken}
 
 -- ---- one step, by the tests of the code
 module _ (s : List ℕ) (at : ℕ) where
@@ -45,17 +45,13 @@ is-found true b p h = (cc, (cc, cc))
 is-found false true p h = (cc, (cc, cc))
 is-found false false p h = (refl, (refl, cc))
 
--- a parameter past the end, or with a wrong L
-abbrev pub broken : List ℕ → ℕ → Bool
-broken s at = pastEnd s (parameterAt s at) || wrong (parameterAt s at)
-
 -- ---- what the answer r at a place says of it
 module _ (s : List ℕ) (at : ℕ) {r : Step} (g : r ≡ stepAt s at) where
   pub at-end : r ≡ End → length s ≤ at
-  at-end e = leb-true _ _ (is-end (leb (length s) at) (broken s at) (parameterAt s at) (sym e ∙ g))
+  at-end e = leb-true _ _ (is-end (leb (length s) at) (broken s (parameterAt s at)) (parameterAt s at) (sym e ∙ g))
 
-  pub at-refused : {why : Refusal} → r ≡ Refused why → (at < length s) × ((broken s at ≡ true) × (why ≡ refusal 3))
-  at-refused e = let q = is-refused (leb (length s) at) (broken s at) (parameterAt s at) (sym e ∙ g) in (leb-false _ _ (q .0), q .1)
+  pub at-refused : {why : Refusal} → r ≡ Refused why → (at < length s) × ((broken s (parameterAt s at) ≡ true) × (why ≡ refusal 3))
+  at-refused e = let q = is-refused (leb (length s) at) (broken s (parameterAt s at)) (parameterAt s at) (sym e ∙ g) in (leb-false _ _ (q .0), q .1)
 
-  pub at-found : {p : Parameter} → r ≡ Found p → (at < length s) × ((broken s at ≡ false) × (p ≡ parameterAt s at))
-  at-found e = let q = is-found (leb (length s) at) (broken s at) (parameterAt s at) (sym e ∙ g) in (leb-false _ _ (q .0), q .1)
+  pub at-found : {p : Parameter} → r ≡ Found p → (at < length s) × ((broken s (parameterAt s at) ≡ false) × (p ≡ parameterAt s at))
+  at-found e = let q = is-found (leb (length s) at) (broken s (parameterAt s at)) (parameterAt s at) (sym e ∙ g) in (leb-false _ _ (q .0), q .1)

@@ -32,9 +32,12 @@ pastEnd s p = ltb (length s) (p .next)
 abbrev pub wrong : Parameter → Bool
 wrong p = wrongLength (p .kind) (p .len)
 
--- one step of the walk: at the packet's end or past it the end; refusal 3 where the parameter at `at` is past the end or has a
--- wrong L; else the parameter
+-- what refusal 3 refuses of a parameter by itself
+abbrev pub broken : List ℕ → Parameter → Bool
+broken s p = pastEnd s p || wrong p
+
+-- one step of the walk: at the packet's end or past it the end; refusal 3 by the parameter at `at`; else the parameter
 abbrev pub stepAt : List ℕ → ℕ → Step
 stepAt s at =
     cond (leb (length s) at) End
-    (cond (pastEnd s (parameterAt s at) || wrong (parameterAt s at)) (Refused (refusal 3)) (Found (parameterAt s at)))
+    (cond (broken s (parameterAt s at)) (Refused (refusal 3)) (Found (parameterAt s at)))
