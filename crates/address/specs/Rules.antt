@@ -26,10 +26,11 @@ allZero a = eqb (a .high) 0 && eqb (a .low) 0
 abbrev pub isIpv4 : Address → Bool
 isIpv4 a = eqb (a .high) 0 && eqb (a .low / 2 ^ 32) 0xffff
 
--- a.b.c.d as one number, and its first octet, a
+-- a.b.c.d as one number
 abbrev pub ipv4 : Address → ℕ
 ipv4 a = a .low % 2 ^ 32
 
+-- its first octet, a
 abbrev pub firstOctet : Address → ℕ
 firstOctet a = ipv4 a / 2 ^ 24
 

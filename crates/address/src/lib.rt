@@ -8,6 +8,13 @@ pub struct Address {
     pub low: u64,
 }
 
+// Powers of two that cut an address: 2^24, 2^32 and 2^56.
+const POWER_24: u64 = 16777216;
+
+const POWER_32: u64 = 4294967296;
+
+const POWER_56: u64 = 72057594037927936;
+
 // The address in the 16 bytes at `at`. A half that s does not hold whole is 0.
 pub fn address_at(s: &[u8], at: usize) -> Address
     ensures { λ r. ⌜ r ≡ addressAt (now (s .entry)) at ⌝ }
@@ -34,17 +41,17 @@ pub fn is_legal(a: Address) -> bool
 {
     let high = a.high;
     let low = a.low;
-    let ipv4 = low % 4294967296;
-    let octet = ipv4 / 16777216;
+    let ipv4 = low % POWER_32;
+    let octet = ipv4 / POWER_24;
     let illegal = boolean::either(
         boolean::both(224 <= octet, octet <= 239),
         boolean::either(ipv4 == 0, ipv4 == 4294967295),
     );
     !boolean::either(
-        high / 72057594037927936 == 255,
+        high / POWER_56 == 255,
         boolean::either(
             boolean::both(high == 0, low == 0),
-            boolean::both(boolean::both(high == 0, low / 4294967296 == 65535), illegal),
+            boolean::both(boolean::both(high == 0, low / POWER_32 == 65535), illegal),
         ),
     )
 }

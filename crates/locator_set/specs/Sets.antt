@@ -42,6 +42,7 @@ refusal6 s =
 abbrev pub blank : ListedLocator
 blank = record { address = record { high = 0; low = 0 }; lifetime = 0; spi = 0; traffic = 0; kind = 0; preferred = false }
 
+-- an array that lists no locator
 abbrev pub blanks : List ListedLocator
 blanks = replicate setLimit blank
 

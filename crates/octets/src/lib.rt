@@ -1,22 +1,14 @@
 // Big-endian numbers in a slice of bytes, total for every place. Depends on nothing.
+// Each is one balanced sum of all its bytes, which is compiled to one load and a byte swap; a sum of two halves is not.
 ghost use mathlib.Core.Path.{_≡_};
-ghost use Prim.Native.Nat.{_+_, _≤_, _<_};
-ghost use lib.ListN.{length};
-ghost use Rattle.octets.specs.Numbers.{bigEndian, numberAt};
+ghost use Prim.Native.Nat.{_<_};
+ghost use Rattle.octets.specs.Numbers.{numberAt};
 
 // A byte as a wider number, with the bound that keeps a sum of such numbers, or a place computed from one, from wrapping.
 pub fn byte(x: u8) -> usize
     ensures { λ r. ⌜ (r ≡ x) × (r < 256) ⌝ }
 {
     x as usize
-}
-
-// The number in the four bytes at `at`, which lie within s. The sum is balanced, so that it is compiled to one load and a byte swap.
-fn four(s: &[u8], at: usize) -> usize
-    requires { ⌜ at + 4 ≤ length (now s) ⌝ }
-    ensures { λ r. ⌜ (r ≡ bigEndian (now (s .entry)) at 4) × (r < 4294967296) ⌝ }
-{
-    (byte(s[at]) * 16777216 + byte(s[at + 1]) * 65536) + (byte(s[at + 2]) * 256 + byte(s[at + 3]))
 }
 
 // The number in the two bytes at `at`, 0 where s ends before they do.
@@ -42,7 +34,8 @@ pub fn u32_at(s: &[u8], at: usize) -> u32
     if s.len() - 4 < at {
         return 0;
     }
-    four(s, at) as u32
+    ((byte(s[at]) * 16777216 + byte(s[at + 1]) * 65536)
+        + (byte(s[at + 2]) * 256 + byte(s[at + 3]))) as u32
 }
 
 // The same in eight bytes.
@@ -55,5 +48,8 @@ pub fn u64_at(s: &[u8], at: usize) -> u64
     if s.len() - 8 < at {
         return 0;
     }
-    (four(s, at) * 4294967296 + four(s, at + 4)) as u64
+    (((byte(s[at]) * 72057594037927936 + byte(s[at + 1]) * 281474976710656)
+        + (byte(s[at + 2]) * 1099511627776 + byte(s[at + 3]) * 4294967296))
+        + ((byte(s[at + 4]) * 16777216 + byte(s[at + 5]) * 65536)
+            + (byte(s[at + 6]) * 256 + byte(s[at + 7])))) as u64
 }

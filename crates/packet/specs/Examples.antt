@@ -85,21 +85,27 @@ table =
     (replicate 39 0 gives Refused (refusal 3))
     ∷ ((58 ∷ 4 ∷ 16 ∷ 0x21 ∷ replicate 36 0) gives Refused (refusal 3))
     ∷ ((59 ∷ 5 ∷ 16 ∷ 0x21 ∷ replicate 36 0) gives Refused (refusal 3))
+    ∷ ((59 ∷ 4 ∷ 17 ∷ 0x21 ∷ replicate 36 0) gives Refused (refusal 3))
+    ∷ ((59 ∷ 4 ∷ 16 ∷ 0x11 ∷ replicate 36 0) gives Refused (refusal 3))
+    ∷ ((59 ∷ 4 ∷ 16 ∷ 0x20 ∷ replicate 36 0) gives Refused (refusal 3))
     ∷ (packetOf (0 ∷ 66 ∷ 0 ∷ 5 ∷ 0 ∷ 0 ∷ 0 ∷ 0 ∷ []) gives Refused (refusal 3))
     ∷ (packetOf (id ++ esp) gives Refused (refusal 3))
     ∷ (packetOf (parameter espInfo (replicate 8 0)) gives Refused (refusal 3))
     ∷ (packetOf (parameter seq (replicate 8 0)) gives Refused (refusal 3))
     ∷ (packetOf (parameter ack []) gives Refused (refusal 3))
+    ∷ (packetOf (parameter ack (replicate 6 0)) gives Refused (refusal 3))
     -- all parameters are judged by refusal 3 before any is by refusal 4
     ∷ (packetOf (parameter 67 [] ++ parameter ack []) gives Refused (refusal 3))
     -- refusal 4: an odd type not known, or 897
     ∷ (packetOf (parameter 67 []) gives Refused (refusal 4))
     ∷ (packetOf (parameter echoRequestSigned (replicate 8 0)) gives Refused (refusal 4))
-    -- refusal 5: no parameter, an even type alone, a second echo response, a Move's parameter in a Reply
+    -- refusal 5: no parameter, an even type alone, a second echo response, a Move's parameter in a Reply, a second ACK, a second set
     ∷ (packetOf [] gives Refused (refusal 5))
     ∷ (packetOf (parameter 66 []) gives Refused (refusal 5))
     ∷ (packetOf (echo ++ echo) gives Refused (refusal 5))
     ∷ (packetOf (id ++ echo) gives Refused (refusal 5))
+    ∷ (packetOf (parameter ack (replicate 4 0) ++ (parameter ack (replicate 4 0) ++ echo)) gives Refused (refusal 5))
+    ∷ (packetOf (esp ++ (parameter locatorSet (plain 1) ++ (parameter locatorSet (plain 2) ++ id))) gives Refused (refusal 5))
     -- refusal 6, by each of its conditions
     ∷ (moveOf [] gives Refused (refusal 6))
     ∷ (moveOf (several 9) gives Refused (refusal 6))
@@ -116,6 +122,7 @@ table =
     ∷ (moveOf (several 8) gives says 8)
     ∷ (moveOf (ipv4 223 ++ ipv4 240) gives says 2)
     ∷ (packetOf (esp ++ (parameter 66 [] ++ (parameter locatorSet (plain 1) ++ (id ++ parameter ack (replicate 8 0))))) gives says 1)
+    ∷ (packetOf (parameter ack (replicate 4 0) ++ echo) gives Reply (Nonce 0x0102030405060708))
     ∷ (packetOf echo gives Reply (Nonce 0x0102030405060708))
     ∷ (packetOf (parameter echoResponseSigned (replicate 7 1)) gives Reply OtherLength)
     ∷ []

@@ -4,12 +4,15 @@ use lib.Dec.{ltb, eqb}
 use Rattle.frame.specs.declared.Occurrence.{Occurrence}
 use Rattle.frame.specs.declared.Survey.{Survey}
 
+-- "exactly one"
 abbrev pub exactlyOne : Occurrence → Bool
 exactlyOne seen = eqb (seen .times) 1
 
+-- "at most one"
 abbrev pub atMostOne : Occurrence → Bool
 atMostOne seen = ltb (seen .times) 2
 
+-- "none"
 abbrev pub none : Occurrence → Bool
 none seen = eqb (seen .times) 0
 

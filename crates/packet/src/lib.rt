@@ -111,6 +111,7 @@ fn read_move(packet: &[u8], seen: Survey) -> Reading
     }
 }
 
+// The parameters are those of a Move.
 fn is_move(seen: Survey) -> bool
     ensures { λ r. ⌜ r ≡ isMove seen ⌝ }
 {
@@ -126,6 +127,7 @@ fn is_move(seen: Survey) -> bool
     )
 }
 
+// The parameters are those of a Reply.
 fn is_reply(seen: Survey) -> bool
     ensures { λ r. ⌜ r ≡ isReply seen ⌝ }
 {

@@ -2,7 +2,6 @@
 use mathlib.Core.Path.{sym}
 use native.Mathlib.Omega.{arith}
 use Rattle.octets.proofs.Fields.{number-within, number-beyond}
-use borrow.Author.Needs.{needs}
 use Rattle.octets.proofs.u32_at.Statement.{statement}
 use Rattle.octets.proofs.u32_at.Tie as tie
 
@@ -15,14 +14,86 @@ sub-if2 c = omega arith
 returns-2 : tie.Need-returns-2
 returns-2 c = let a = c .before .before .before .args in sym (number-beyond (a .s .now) (a .at) 4 (omega arith))
 
-four-requires : tie.Need-four-requires
-four-requires c κs = search needs
+shared-slice-read-byte : tie.Need-shared-slice-read-byte
+shared-slice-read-byte c = omega arith
+
+byte-requires : tie.Need-byte-requires
+byte-requires c κs = tt
+
+mul-result : tie.Need-mul-result
+mul-result c = omega arith
+
+add-byte : tie.Need-add-byte
+add-byte c = omega arith
+
+shared-slice-read-byte-2 : tie.Need-shared-slice-read-byte-2
+shared-slice-read-byte-2 c = omega arith
+
+byte-requires-2 : tie.Need-byte-requires-2
+byte-requires-2 c κs = tt
+
+mul-result-2 : tie.Need-mul-result-2
+mul-result-2 c = omega arith
+
+add-result : tie.Need-add-result
+add-result c = omega arith
+
+add-byte-2 : tie.Need-add-byte-2
+add-byte-2 c = omega arith
+
+shared-slice-read-byte-3 : tie.Need-shared-slice-read-byte-3
+shared-slice-read-byte-3 c = omega arith
+
+byte-requires-3 : tie.Need-byte-requires-3
+byte-requires-3 c κs = tt
+
+mul-result-3 : tie.Need-mul-result-3
+mul-result-3 c = omega arith
+
+add-byte-3 : tie.Need-add-byte-3
+add-byte-3 c = omega arith
+
+shared-slice-read-byte-4 : tie.Need-shared-slice-read-byte-4
+shared-slice-read-byte-4 c = omega arith
+
+byte-requires-4 : tie.Need-byte-requires-4
+byte-requires-4 c κs = tt
+
+add-result-2 : tie.Need-add-result-2
+add-result-2 c = omega arith
+
+add-result-3 : tie.Need-add-result-3
+add-result-3 c = omega arith
 
 cast-result : tie.Need-cast-result
 cast-result c = omega arith
 
 returns-3 : tie.Need-returns-3
-returns-3 c = let a = c .before .before .before .before .args in omega (arith, number-within (a .s .now) (a .at) 4 (omega arith))
+returns-3 c = let a = c .before .before .before .before .before .before .before .before .before .before .before .args in omega (arith, number-within (a .s .now) (a .at) 4 (omega arith))
 
 pub u32-at-spec : {M : Type 1} → statement M
-u32-at-spec = tie.close (tie.spec returns sub-if2 returns-2 four-requires cast-result returns-3)
+u32-at-spec =
+    tie.close
+    (tie.spec
+    returns
+    sub-if2
+    returns-2
+    shared-slice-read-byte
+    byte-requires
+    mul-result
+    add-byte
+    shared-slice-read-byte-2
+    byte-requires-2
+    mul-result-2
+    add-result
+    add-byte-2
+    shared-slice-read-byte-3
+    byte-requires-3
+    mul-result-3
+    add-byte-3
+    shared-slice-read-byte-4
+    byte-requires-4
+    add-result-2
+    add-result-3
+    cast-result
+    returns-3)
