@@ -1,0 +1,46 @@
+-- What the definitions say of a slot whose holding is known. Assumes nothing.
+use mathlib.Core.Path.{_≡_, ap}
+use mathlib.Core.Bool.{Bool, false, _||_}
+use Prim.Native.Nat.{ℕ, _≤_, _<_}
+use lib.Dec.{eqb}
+use borrow.Author.Tests.{le-leb, lt-leb}
+use Rattle.address.specs.Rules.{sameAddress}
+use Rattle.slot.specs.declared.Check.{Check}
+use Rattle.slot.specs.declared.Status.{Status}
+use Rattle.slot.specs.declared.Status.the-variants.{Unverified, Deprecated}
+use Rattle.slot.specs.declared.Locator.{Locator}
+use Rattle.slot.specs.declared.Holding.{Holding}
+use Rattle.slot.specs.declared.Holding.the-variants.{Empty, Held}
+use Rattle.slot.specs.declared.Slot.{Slot}
+use Rattle.slot.specs.Found.{slotOf, withStatus}
+use Rattle.slot.specs.Clashes.{sameNonce, clash}
+use Rattle.slot.specs.Expiry.{expireSlot}
+
+pub nonces : (x y : Status) (k l : Check) → x ≡ Unverified k → y ≡ Unverified l → eqb (k .nonce) (l .nonce) ≡ sameNonce x y
+nonces x y k l p q = simp (p, q)
+
+pub clash-empty : (x y : Slot) → x .holding ≡ Empty → false ≡ clash x y
+unfolding clash
+clash-empty x y p = simp p
+
+pub clash-to-empty : (x y : Slot) (l : Locator) → x .holding ≡ Held l → y .holding ≡ Empty → false ≡ clash x y
+unfolding clash
+clash-to-empty x y l p q = simp (p, q)
+
+pub clash-held : (x y : Slot) (l m : Locator) (a b r : Bool) → x .holding ≡ Held l → y .holding ≡ Held m →
+    a ≡ sameAddress (l .address) (m .address) → b ≡ sameNonce (l .status) (m .status) → r ≡ (a || b) → r ≡ clash x y
+unfolding clash
+clash-held x y l m a b r p q u v w = rw (w, u, v, p, q)
+
+-- a slot is its holding
+abbrev slotWith : Holding → Slot
+slotWith h = record { holding = h }
+
+pub expire-empty : (t : ℕ) (s : Slot) → s .holding ≡ Empty → s ≡ expireSlot t s
+expire-empty t s p = ap slotWith (simp p)
+
+pub expire-early : (t : ℕ) (s : Slot) (l : Locator) → s .holding ≡ Held l → t < l .expiry → s ≡ expireSlot t s
+expire-early t s l p h = ap slotWith (simp (p, lt-leb (l .expiry) t h))
+
+pub expire-late : (t : ℕ) (s : Slot) (l : Locator) → s .holding ≡ Held l → l .expiry ≤ t → slotOf (withStatus l Deprecated) ≡ expireSlot t s
+expire-late t s l p h = simp (p, le-leb (l .expiry) t h)

@@ -1,0 +1,23 @@
+-- `slot::expire` meets its contract: by what the slot holds and its expiry. Assumes nothing.
+use Rattle.slot.proofs.Cases.{expire-empty, expire-early, expire-late}
+use borrow.Author.Needs.{needs}
+use Rattle.slot.proofs.expire.Statement.{statement}
+use Rattle.slot.proofs.expire.Tie as tie
+
+enum-told : tie.Need-enum-told
+enum-told c = search needs
+
+enum-known-holding : tie.Need-enum-known-holding
+enum-known-holding c = search needs
+
+returns : tie.Need-returns
+returns c = search expire-empty
+
+returns-2 : tie.Need-returns-2
+returns-2 c = search expire-late
+
+returns-3 : tie.Need-returns-3
+returns-3 c = search expire-early
+
+pub expire-spec : {M : Type 1} → statement M
+expire-spec = tie.close (tie.spec enum-told enum-known-holding returns returns-2 returns-3)

@@ -1,0 +1,20 @@
+-- "Locators with time at or past expiry turn DEPRECATED."
+use Prim.Native.Nat.{ℕ}
+use mathlib.Core.Bool.{cond}
+use lib.Dec.{leb}
+use Rattle.slot.specs.Found.{withStatus}
+use Rattle.slot.specs.declared.Status.the-variants.{Deprecated}
+use Rattle.slot.specs.declared.Locator.{Locator}
+use Rattle.slot.specs.declared.Holding.{Holding}
+use Rattle.slot.specs.declared.Holding.the-variants.{Empty, Held}
+use Rattle.slot.specs.declared.Slot.{Slot}
+
+abbrev pub expireLocator : (time : ℕ) → Locator → Locator
+expireLocator time l = cond (leb (l .expiry) time) (withStatus l Deprecated) l
+
+abbrev pub expireHeld : (time : ℕ) → Holding → Holding
+expireHeld time Empty = Empty
+expireHeld time (Held l) = Held (expireLocator time l)
+
+abbrev pub expireSlot : (time : ℕ) → Slot → Slot
+expireSlot time s = record { holding = expireHeld time (s .holding) }

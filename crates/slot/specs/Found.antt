@@ -1,0 +1,60 @@
+-- What slots hold: "A slot is empty or holds 16 address bytes, a traffic type, an expiry time and a status."
+use Prim.Native.Nat.{ℕ, zero, suc}
+use mathlib.Core.Bool.{Bool, true, false, cond}
+use mathlib.Core.Option.{Option, none, some}
+use mathlib.Core.List.{List, [], _∷_}
+use Rattle.address.specs.declared.Address.{Address}
+use Rattle.address.specs.Rules.{sameAddress}
+use Rattle.slot.specs.declared.Status.{Status}
+use Rattle.slot.specs.declared.Status.the-variants.{Unverified, Active, Deprecated}
+use Rattle.slot.specs.declared.Locator.{Locator}
+use Rattle.slot.specs.declared.Holding.{Holding}
+use Rattle.slot.specs.declared.Holding.the-variants.{Empty, Held}
+use Rattle.slot.specs.declared.Slot.{Slot}
+
+-- "and 8 slots"
+abbrev pub slotCount : ℕ
+slotCount = 8
+
+-- a slot that holds nothing, and one that holds a locator
+abbrev pub emptySlot : Slot
+emptySlot = record { holding = Empty }
+
+abbrev pub slotOf : Locator → Slot
+slotOf l = record { holding = Held l }
+
+-- the locator with another status
+abbrev pub withStatus : Locator → Status → Locator
+withStatus l s = record { address = l .address; traffic = l .traffic; expiry = l .expiry; status = s }
+
+-- the status of an address in a slot, if the slot holds it
+abbrev pub statusHeld : Address → Holding → Option Status
+statusHeld x Empty = none
+statusHeld x (Held l) = cond (sameAddress x (l .address)) (some (l .status)) none
+
+-- the first answer that there is
+abbrev pub orElse : {A : Type 0} → Option A → Option A → Option A
+orElse none o = o
+orElse (some a) o = some a
+
+-- "Finds and leaves: the status of the slot that holds the address"; none where the address is not held
+unfoldable pub statusIn : Address → List Slot → Option Status
+statusIn x [] = none
+statusIn x (s ∷ ss) = orElse (statusHeld x (s .holding)) (statusIn x ss)
+
+-- the status of slot n; none where it is empty or not there
+abbrev pub statusOf : Holding → Option Status
+statusOf Empty = none
+statusOf (Held l) = some (l .status)
+
+unfoldable pub statusAt : ℕ → List Slot → Option Status
+statusAt n [] = none
+statusAt zero (s ∷ ss) = statusOf (s .holding)
+statusAt (suc n) (s ∷ ss) = statusAt n ss
+
+-- the status is UNVERIFIED
+abbrev pub isUnverified : Option Status → Bool
+isUnverified none = false
+isUnverified (some (Unverified k)) = true
+isUnverified (some Active) = false
+isUnverified (some Deprecated) = false

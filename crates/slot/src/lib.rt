@@ -1,0 +1,99 @@
+// A slot and the locator that it holds: its status, its expiry, and what two slots may not share. Depends on address and boolean.
+use address::Address;
+ghost use mathlib.Core.Path.{_≡_};
+ghost use Rattle.slot.specs.Clashes.{sameNonce, clash};
+ghost use Rattle.slot.specs.Expiry.{expireSlot};
+
+// The slots of an association.
+pub const SLOT_COUNT: usize = 8;
+
+// The check that is out for an address: the nonce that its echo must hold, and the Update ID that it was sent with.
+pub struct Check {
+    pub nonce: u64,
+    pub id: u32,
+}
+
+// UNVERIFIED, with its check; ACTIVE; DEPRECATED.
+pub enum Status {
+    Unverified(Check),
+    Active,
+    Deprecated,
+}
+
+// A locator that is held.
+pub struct Locator {
+    pub address: Address,
+    pub traffic: u8,
+    pub expiry: u64,
+    pub status: Status,
+}
+
+pub enum Holding {
+    Empty,
+    Held(Locator),
+}
+
+pub struct Slot {
+    pub holding: Holding,
+}
+
+// Both are UNVERIFIED, and the nonces of their checks are equal.
+fn same_nonce(x: Status, y: Status) -> bool
+    ensures { λ r. ⌜ r ≡ sameNonce x y ⌝ }
+{
+    match x {
+        Status::Unverified(k) => match y {
+            Status::Unverified(l) => k.nonce == l.nonce,
+            Status::Active => false,
+            Status::Deprecated => false,
+        },
+        Status::Active => false,
+        Status::Deprecated => false,
+    }
+}
+
+// Two slots that no association may hold together: one address, or one nonce, stands in both.
+pub fn clashes(x: Slot, y: Slot) -> bool
+    ensures { λ r. ⌜ r ≡ clash x y ⌝ }
+{
+    let first = x.holding;
+    let second = y.holding;
+    match first {
+        Holding::Empty => false,
+        Holding::Held(l) => match second {
+            Holding::Empty => false,
+            Holding::Held(m) => {
+                let a = l.address;
+                let b = m.address;
+                let s = l.status;
+                let t = m.status;
+                boolean::either(address::same(a, b), same_nonce(s, t))
+            }
+        },
+    }
+}
+
+// The slot at a time: a locator at or past its expiry is DEPRECATED.
+pub fn expire(slot: Slot, time: u64) -> Slot
+    ensures { λ r. ⌜ r ≡ expireSlot time slot ⌝ }
+{
+    let holding = slot.holding;
+    match holding {
+        Holding::Empty => slot,
+        Holding::Held(l) => {
+            if l.expiry <= time {
+                let address = l.address;
+                Slot {
+                    holding: Holding::Held(Locator {
+                        address,
+                        traffic: l.traffic,
+                        expiry: l.expiry,
+                        status: Status::Deprecated,
+                    }),
+                }
+            } else {
+                slot
+            }
+        }
+    }
+}

@@ -1,0 +1,17 @@
+-- Rules over all the slots.
+use Prim.Native.Nat.{ℕ}
+use mathlib.Core.Bool.{Bool, false, _||_}
+use mathlib.Core.List.{List, [], _∷_, map}
+use Rattle.octets.specs.Records.{some}
+use Rattle.slot.specs.Clashes.{clash}
+use Rattle.slot.specs.Expiry.{expireSlot}
+use Rattle.slot.specs.declared.Slot.{Slot}
+
+-- "an address held twice, or two equal outstanding nonces": a slot clashes with one after it
+unfoldable pub clashing : List Slot → Bool
+clashing [] = false
+clashing (s ∷ ss) = some (clash s) ss || clashing ss
+
+-- "Locators with time at or past expiry turn DEPRECATED."
+abbrev pub expireAll : (time : ℕ) → List Slot → List Slot
+expireAll time slots = map (expireSlot time) slots

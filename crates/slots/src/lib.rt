@@ -1,0 +1,55 @@
+// The slots of an association, all of them: whether two clash, and their expiry. Depends on slot.
+// The functions take the slots and not the association, so that they serve an association with several sets of slots.
+use slot::SLOT_COUNT;
+use slot::Slot;
+ghost use mathlib.Core.Path.{_≡_};
+ghost use lib.ListN.{drop};
+ghost use Rattle.octets.specs.Records.{some};
+ghost use Rattle.slot.specs.Clashes.{clash};
+ghost use Rattle.slots.specs.Rules.{clashing, expireAll};
+
+// The slot clashes with one of those from `start` on.
+fn clashes_from(slots: [Slot; SLOT_COUNT], slot: Slot, start: usize) -> bool
+    ensures { λ r. ⌜ r ≡ some (clash slot) (drop start slots) ⌝ }
+{
+    let held = slots;
+    let mut j = start;
+    while j < SLOT_COUNT {
+        let other = held[j];
+        if slot::clashes(slot, other) {
+            return true;
+        }
+        j += 1;
+    }
+    false
+}
+
+// Two slots clash.
+pub fn any_clash(slots: [Slot; SLOT_COUNT]) -> bool
+    ensures { λ r. ⌜ r ≡ clashing slots ⌝ }
+{
+    let held = slots;
+    let mut i: usize = 0;
+    while i < SLOT_COUNT {
+        let slot = held[i];
+        if clashes_from(held, slot, i + 1) {
+            return true;
+        }
+        i += 1;
+    }
+    false
+}
+
+// The slots at a time: locators at or past their expiry are DEPRECATED.
+pub fn expire_all(slots: [Slot; SLOT_COUNT], time: u64) -> [Slot; SLOT_COUNT]
+    ensures { λ r. ⌜ r ≡ expireAll time slots ⌝ }
+{
+    let mut held = slots;
+    let mut i: usize = 0;
+    while i < SLOT_COUNT {
+        let slot = held[i];
+        held[i] = slot::expire(slot, time);
+        i += 1;
+    }
+    held
+}
