@@ -1,0 +1,3 @@
+pub mod Credit
+pub mod Clock
+pub mod Examples
