@@ -1,0 +1,80 @@
+-- Worked examples, computed from the definitions: refusals 0 and 16 at the edge of each condition.
+use Prim.Native.Nat.{ℕ, _^_}
+use mathlib.Core.Path.{_≡_, refl}
+use mathlib.Core.Bool.{true, false}
+use mathlib.Core.List.{List, [], _∷_, map}
+use lib.ListN.{replicate}
+use Rattle.octets.specs.Records as records
+use Rattle.address.specs.declared.Address.{Address}
+use Rattle.address.specs.Rules.{legal}
+use Rattle.slot.specs.declared.Status.{Status}
+use Rattle.slot.specs.declared.Status.the-variants.{Unverified, Active, Deprecated}
+use Rattle.slot.specs.declared.Slot.{Slot}
+use Rattle.slot.specs.Found.{emptySlot, slotOf}
+use Rattle.slot.specs.Clashes.{clash}
+use Rattle.slots.specs.Rules.{clashing}
+use Rattle.path.specs.declared.Preference.{Preference}
+use Rattle.path.specs.declared.Preference.the-variants.{NoPreference, Prefers}
+use Rattle.association.specs.declared.PeerId.the-variants.{NoneSeen}
+use Rattle.association.specs.declared.Association.{Association}
+use Rattle.association.specs.Form.{refusal0, accepted, refused}
+use Rattle.association.specs.Start.{noAssociation, started, startOf}
+
+abbrev holding : (low : ℕ) → Status → Slot
+holding low s = slotOf (record { address = record { high = 0x20010db800000000; low = low }; traffic = 0; expiry = 160; status = s })
+
+abbrev checked : (nonce : ℕ) → Status
+checked nonce = Unverified (record { nonce = nonce; id = 0 })
+
+abbrev with : (time aged credit next : ℕ) → Preference → List Slot → Association
+with time aged credit next p slots =
+    record { outbound = 8193; inbound = 4097; time = time; aged = aged; credit = credit; peer = NoneSeen; next = next; preferred = p; slots = slots }
+
+-- two addresses, one nonce outstanding for each
+abbrev two : (low nonce : ℕ) → List Slot
+two low nonce = emptySlot ∷ holding 1 (checked 7) ∷ emptySlot ∷ emptySlot ∷ emptySlot ∷ emptySlot ∷ emptySlot ∷ holding low (checked nonce) ∷ []
+
+-- at the edge of each condition, and one past it
+abbrev edges : List Association
+edges =
+    with (2 ^ 40) 0 0 0 NoPreference (two 2 8)
+    ∷ with 100 101 0 0 NoPreference (two 2 8)
+    ∷ with 100 100 1048577 0 NoPreference (two 2 8)
+    ∷ with 100 100 0 4294967297 NoPreference (two 2 8)
+    ∷ with 100 100 0 0 (Prefers 8) (two 2 8)
+    ∷ with 100 100 0 0 NoPreference (two 1 8)
+    ∷ with 100 100 0 0 NoPreference (two 2 7)
+    -- a DEPRECATED locator holds its address, and has no nonce outstanding
+    ∷ with 100 100 0 0 NoPreference (holding 1 Active ∷ holding 1 Deprecated ∷ replicate 6 emptySlot)
+    ∷ []
+
+abbrev sounds : List Association
+sounds =
+    with 1099511627775 1099511627775 1048576 4294967296 (Prefers 7) (two 2 8)
+    -- a preference may name an empty slot
+    ∷ with 100 0 0 0 (Prefers 0) (two 2 8)
+    ∷ with 100 100 0 0 NoPreference (holding 1 Active ∷ holding 2 Active ∷ holding 3 Deprecated ∷ holding 4 Deprecated ∷ replicate 4 emptySlot)
+    ∷ with 100 100 0 0 NoPreference (replicate 8 emptySlot)
+    ∷ []
+
+refusal-0 : (map refusal0 edges ≡ replicate 8 true) × (map refusal0 sounds ≡ replicate 4 false) × (refusal0 noAssociation ≡ true)
+unfolding refusal0 clashing records.some clash
+refusal-0 = (refl, refl, refl)
+
+abbrev home : Address
+home = record { high = 0x20010db800000000; low = 1 }
+
+-- refusal 16, by each condition, and the last start that passes
+refusal-16 : (startOf (2 ^ 40) 8193 4097 home 60 ≡ refused 16 noAssociation)
+    × (startOf 100 0 4097 home 60 ≡ refused 16 noAssociation)
+    × (startOf 100 8193 0 home 60 ≡ refused 16 noAssociation)
+    × (startOf 100 8193 4097 home 0 ≡ refused 16 noAssociation)
+    × (startOf 100 8193 4097 (record { high = 0; low = 0 }) 60 ≡ refused 16 noAssociation)
+    × (startOf 1099511627775 1 4294967295 home 1 ≡ accepted (started 1099511627775 1 4294967295 home 1))
+unfolding startOf legal
+refusal-16 = (refl, refl, refl, refl, refl, refl)
+
+-- what an accepted start holds
+whole : startOf 100 8193 4097 home 60 ≡ accepted (with 100 100 0 0 (Prefers 0) (holding 1 Active ∷ replicate 7 emptySlot))
+unfolding startOf legal
+whole = refl
