@@ -1,6 +1,6 @@
 -- Laws of tests that the library lacks. Assumes nothing.
 use mathlib.Core.Path.{_≡_, refl}
-use mathlib.Core.Bool.{Bool, true, false, _&&_, _||_}
+use mathlib.Core.Bool.{Bool, true, false, cond, _&&_, _||_}
 
 -- neither of two tests holds where their disjunction does not
 pub or-false-left : (a b : Bool) → (a || b) ≡ false → a ≡ false
@@ -23,3 +23,12 @@ and-true-right false b e = cc
 -- a test that holds leaves the tests after it
 pub and-step : {a b x : Bool} → a ≡ true → x ≡ b → x ≡ (a && b)
 and-step p q = rw (p, q)
+
+-- a chain of tests: b is what the code found, t the definition's test, and r the answer
+pub cond-taken : {A : Type 0} (b t : Bool) (x y r : A) → b ≡ t → b ≡ true → r ≡ x → r ≡ cond t x y
+cond-taken b t x y r p q e = rw (← p, q) e
+
+pub cond-passed : {A : Type 0} (b t : Bool) (x y r : A) → b ≡ t → b ≡ false → r ≡ y → r ≡ cond t x y
+cond-passed b t x y r p q e = rw (← p, q) e
+
+pub ruleset chain = (cond-taken, cond-passed)

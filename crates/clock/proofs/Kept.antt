@@ -1,0 +1,41 @@
+-- What a tick keeps: an association stays sound. Assumes nothing.
+use mathlib.Core.Path.{_≡_, refl}
+use mathlib.Core.Bool.{Bool, true, false, cond}
+use Prim.Native.Nat.{ℕ, _≤_, _<_}
+use lib.Dec.{leb, ltb}
+use native.Mathlib.Omega.{arith}
+use borrow.Author.Tests.{leb-false, ltb-false}
+use Rattle.boolean.proofs.Laws.{or-false-left, or-false-right}
+use Rattle.credit.specs.Clock.{timeLimit, refusal12, ageings}
+use Rattle.credit.proofs.Ageing.{aged-at-most, last-at-most}
+use Rattle.slots.proofs.Kept.{expired-clashing}
+use Rattle.association.specs.Form.{refusal0, accepted, refused}
+use Rattle.association.specs.declared.Association.{Association}
+use Rattle.association.proofs.Sound.{Sound, sound, not-refused, Keeps}
+use Rattle.clock.specs.Ticks.{ticked, tickOf}
+
+ticked-sound : (a : Association) (t : ℕ) → Sound a → a .time ≤ t → t < timeLimit → refusal0 (ticked a t) ≡ false
+ticked-sound a t s h k =
+    let c = aged-at-most (ageings (a .aged) t) (a .credit) in
+    let l = s .credit in
+    let g = s .aged in
+    not-refused (ticked a t)
+    (record {
+      time = k;
+      aged = last-at-most (a .aged) t (omega arith);
+      credit = omega arith;
+      next = s .next;
+      preferred = s .preferred;
+      apart = expired-clashing t (a .slots) (s .apart);
+    })
+
+pub tick-keeps : (t : ℕ) → Keeps (λ a. tickOf a t .association)
+unfolding tickOf
+tick-keeps t a p = rw p (go (refusal12 (a .time) t) refl)
+  where
+    go : (b : Bool) → refusal12 (a .time) t ≡ b → refusal0 ((cond b (refused 12 a) (accepted (ticked a t))) .association) ≡ false
+    go true e = p
+    go false e =
+        ticked-sound a t (sound a p)
+        (ltb-false t (a .time) (or-false-left (ltb t (a .time)) (leb timeLimit t) e))
+        (leb-false timeLimit t (or-false-right (ltb t (a .time)) (leb timeLimit t) e))
