@@ -9,6 +9,7 @@ use Rattle.slots.specs.Rules.{clashing}
 use Rattle.credit.specs.Credit.{creditLimit}
 use Rattle.credit.specs.Clock.{timeLimit}
 use Rattle.association.specs.declared.Association.{Association}
+use Rattle.association.specs.declared.Answer.{Answer}
 use Rattle.association.specs.Form.{idLimit, beyond, refusal0, withCredit}
 
 -- what refusal 0 asks of an association, as facts
@@ -55,6 +56,10 @@ not-refused a s =
 -- a call keeps associations sound: what it leaves of one that refusal 0 does not refuse, refusal 0 does not refuse
 abbrev pub Keeps : (call : Association → Association) → Type 0
 Keeps call = (a : Association) → refusal0 a ≡ false → refusal0 (call a) ≡ false
+
+-- the answer leaves an association that refusal 0 does not refuse
+abbrev pub Leaves : Answer → Type 0
+Leaves r = refusal0 (r .association) ≡ false
 
 pub credit-sound : (a : Association) (c : ℕ) → refusal0 a ≡ false → c ≤ creditLimit → refusal0 (withCredit a c) ≡ false
 credit-sound a c p h =

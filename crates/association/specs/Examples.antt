@@ -34,9 +34,9 @@ with time aged credit next p slots =
 abbrev two : (low nonce : ℕ) → List Slot
 two low nonce = emptySlot ∷ holding 1 (checked 7) ∷ emptySlot ∷ emptySlot ∷ emptySlot ∷ emptySlot ∷ emptySlot ∷ holding low (checked nonce) ∷ []
 
--- at the edge of each condition, and one past it
-abbrev edges : List Association
-edges =
+-- each breaks one condition, by as little as can be
+abbrev broken : List Association
+broken =
     with (2 ^ 40) 0 0 0 NoPreference (two 2 8)
     ∷ with 100 101 0 0 NoPreference (two 2 8)
     ∷ with 100 100 1048577 0 NoPreference (two 2 8)
@@ -48,8 +48,9 @@ edges =
     ∷ with 100 100 0 0 NoPreference (holding 1 Active ∷ holding 1 Deprecated ∷ replicate 6 emptySlot)
     ∷ []
 
-abbrev sounds : List Association
-sounds =
+-- each condition at its edge, and not broken
+abbrev kept : List Association
+kept =
     with 1099511627775 1099511627775 1048576 4294967296 (Prefers 7) (two 2 8)
     -- a preference may name an empty slot
     ∷ with 100 0 0 0 (Prefers 0) (two 2 8)
@@ -57,7 +58,7 @@ sounds =
     ∷ with 100 100 0 0 NoPreference (replicate 8 emptySlot)
     ∷ []
 
-refusal-0 : (map refusal0 edges ≡ replicate 8 true) × (map refusal0 sounds ≡ replicate 4 false) × (refusal0 noAssociation ≡ true)
+refusal-0 : (map refusal0 broken ≡ replicate 8 true) × (map refusal0 kept ≡ replicate 4 false) × (refusal0 noAssociation ≡ true)
 unfolding refusal0 clashing records.some clash
 refusal-0 = (refl, refl, refl)
 

@@ -32,3 +32,8 @@ pub cond-passed : {A : Type 0} (b t : Bool) (x y r : A) → b ≡ t → b ≡ fa
 cond-passed b t x y r p q e = rw (← p, q) e
 
 pub ruleset chain = (cond-taken, cond-passed)
+
+-- what holds of both answers of a test, each where the test finds it, holds of the answer
+pub cond-all : {A : Type 0} (P : A → Type 0) (t : Bool) (x y : A) → (t ≡ true → P x) → (t ≡ false → P y) → P (cond t x y)
+cond-all P true x y p q = p refl
+cond-all P false x y p q = q refl

@@ -1,17 +1,17 @@
--- What a tick keeps: an association stays sound. Assumes nothing.
-use mathlib.Core.Path.{_≡_, refl}
-use mathlib.Core.Bool.{Bool, true, false, cond}
+-- A tick keeps associations sound. Assumes nothing.
+use mathlib.Core.Path.{_≡_}
+use mathlib.Core.Bool.{false}
 use Prim.Native.Nat.{ℕ, _≤_, _<_}
 use lib.Dec.{leb, ltb}
 use native.Mathlib.Omega.{arith}
 use borrow.Author.Tests.{leb-false, ltb-false}
-use Rattle.boolean.proofs.Laws.{or-false-left, or-false-right}
+use Rattle.boolean.proofs.Laws.{or-false-left, or-false-right, cond-all}
 use Rattle.credit.specs.Clock.{timeLimit, refusal12, ageings}
 use Rattle.credit.proofs.Ageing.{aged-at-most, last-at-most}
 use Rattle.slots.proofs.Kept.{expired-clashing}
 use Rattle.association.specs.Form.{refusal0, accepted, refused}
 use Rattle.association.specs.declared.Association.{Association}
-use Rattle.association.proofs.Sound.{Sound, sound, not-refused, Keeps}
+use Rattle.association.proofs.Sound.{Sound, sound, not-refused, Keeps, Leaves}
 use Rattle.clock.specs.Ticks.{ticked, tickOf}
 
 ticked-sound : (a : Association) (t : ℕ) → Sound a → a .time ≤ t → t < timeLimit → refusal0 (ticked a t) ≡ false
@@ -31,11 +31,9 @@ ticked-sound a t s h k =
 
 pub tick-keeps : (t : ℕ) → Keeps (λ a. tickOf a t .association)
 unfolding tickOf
-tick-keeps t a p = rw p (go (refusal12 (a .time) t) refl)
-  where
-    go : (b : Bool) → refusal12 (a .time) t ≡ b → refusal0 ((cond b (refused 12 a) (accepted (ticked a t))) .association) ≡ false
-    go true e = p
-    go false e =
-        ticked-sound a t (sound a p)
-        (ltb-false t (a .time) (or-false-left (ltb t (a .time)) (leb timeLimit t) e))
-        (leb-false timeLimit t (or-false-right (ltb t (a .time)) (leb timeLimit t) e))
+tick-keeps t a p =
+    cond-all Leaves (refusal0 a) (refused 0 a) _ (λ e. p)
+    (λ e. cond-all Leaves (refusal12 (a .time) t) (refused 12 a) (accepted (ticked a t)) (λ e. p)
+    (λ e. ticked-sound a t (sound a p)
+    (ltb-false t (a .time) (or-false-left (ltb t (a .time)) (leb timeLimit t) e))
+    (leb-false timeLimit t (or-false-right (ltb t (a .time)) (leb timeLimit t) e))))

@@ -5,7 +5,7 @@ use Prim.Native.Nat.{ℕ, zero, suc, _+_, _-_, _*_, _/_, _%_, _≤_, _<_}
 use lib.Dec.{leb}
 use native.Mathlib.Omega.{arith}
 use borrow.Author.Tests.{le-leb, lt-leb, leb-true}
-use Rattle.credit.specs.Clock.{ageingInterval, due, aged, agedBy, creditAt, lastAgeing}
+use Rattle.credit.specs.Clock.{ageingInterval, due, agedOnce, agedBy, creditAt, lastAgeing}
 
 -- before the last ageing none is due, and after it the time that has passed decides
 pub due-before : (last time : ℕ) → time < last → false ≡ due last time
@@ -23,7 +23,7 @@ due-after last time h = go (leb (last + ageingInterval) time) refl
         later true q = let p = leb-true ageingInterval (time - last) q in sym (le-leb (last + ageingInterval) time (omega arith)) ∙ e
 
 -- the credit at a time is aged once where that is due, and else stays
-pub credit-due : (last time credit : ℕ) (b : Bool) (r : ℕ) → b ≡ due last time → b ≡ true → r ≡ aged credit → r ≡ creditAt last time credit
+pub credit-due : (last time credit : ℕ) (b : Bool) (r : ℕ) → b ≡ due last time → b ≡ true → r ≡ agedOnce credit → r ≡ creditAt last time credit
 unfolding agedBy
 credit-due last time credit b r p q e = rw (← p, q) e
 
@@ -32,7 +32,7 @@ unfolding agedBy
 credit-kept last time credit b p q = rw (← p, q)
 
 -- seven eighths, taken of whole eighths and of the rest
-pub eighths : (c : ℕ) → 7 * (c / 8) + 7 * (c % 8) / 8 ≡ aged c
+pub eighths : (c : ℕ) → 7 * (c / 8) + 7 * (c % 8) / 8 ≡ agedOnce c
 eighths c = omega arith
 
 pub last-due : (last time : ℕ) (b : Bool) → b ≡ due last time → b ≡ true → time ≡ lastAgeing last time
@@ -45,7 +45,7 @@ last-kept last time b p q = rw (← p, q)
 pub aged-at-most : (k c : ℕ) → agedBy k c ≤ c
 unfolding agedBy
 aged-at-most zero c = omega arith
-aged-at-most (suc k) c = let r = aged-at-most k (aged c) in omega arith
+aged-at-most (suc k) c = let r = aged-at-most k (agedOnce c) in omega arith
 
 pub last-at-most : (last time : ℕ) → last ≤ time → lastAgeing last time ≤ time
 last-at-most last time h = go (due last time)

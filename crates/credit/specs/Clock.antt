@@ -24,13 +24,13 @@ abbrev pub ageings : (last time : ℕ) → ℕ
 ageings last time = cond (due last time) 1 0
 
 -- "credit c becomes floor(7c / 8)"
-abbrev pub aged : ℕ → ℕ
-aged c = 7 * c / 8
+abbrev pub agedOnce : ℕ → ℕ
+agedOnce c = 7 * c / 8
 
 -- the credit after so many ageings
 unfoldable pub agedBy : (count credit : ℕ) → ℕ
 agedBy zero credit = credit
-agedBy (suc count) credit = agedBy count (aged credit)
+agedBy (suc count) credit = agedBy count (agedOnce credit)
 
 -- the credit after a tick
 abbrev pub creditAt : (last time credit : ℕ) → ℕ

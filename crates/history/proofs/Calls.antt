@@ -1,16 +1,18 @@
 -- What each call keeps and changes: refusal 0, the credit, and the status of one address. Assumes nothing.
-use mathlib.Core.Path.{_≡_, refl}
-use mathlib.Core.Bool.{Bool, true, false, cond}
-use mathlib.Core.Option.{Option}
+use mathlib.Core.Path.{_≡_, refl, sym}
+use mathlib.Core.Bool.{true, false}
+use mathlib.Core.Option.{Option, none, some}
 use mathlib.Core.List.{List, [], _∷_}
 use Prim.Native.Nat.{ℕ, zero, suc, _-_}
 use lib.ListN.{replicate}
 use native.Mathlib.Omega.{arith}
+use Rattle.boolean.proofs.Laws.{cond-all}
 use Rattle.refusal.specs.declared.Refusal.{Refusal}
 use Rattle.refusal.specs.Table.{refusal}
 use Rattle.address.specs.declared.Address.{Address}
 use Rattle.slot.specs.declared.Status.{Status}
-use Rattle.slot.specs.Found.{statusIn}
+use Rattle.slot.specs.declared.Status.the-variants.{Unverified, Active, Deprecated}
+use Rattle.slot.specs.Found.{statusIn, statusAt, isActive, isUnverified, foundAs}
 use Rattle.slot.proofs.Expired.{KeptOrDeprecated, kept}
 use Rattle.slots.proofs.Kept.{expired-statuses}
 use Rattle.path.specs.Choices.{pathOf}
@@ -18,7 +20,7 @@ use Rattle.path.specs.declared.Path.{Path}
 use Rattle.path.specs.declared.Path.the-variants.{ToActive, ToUnverified, NoCarrier}
 use Rattle.path.proofs.Picked.{picked-active, picked-unverified}
 use Rattle.credit.specs.Credit.{refusal13, covers, credited}
-use Rattle.credit.specs.Clock.{refusal12, ageings, aged, agedBy}
+use Rattle.credit.specs.Clock.{refusal12, ageings, agedOnce, agedBy}
 use Rattle.association.specs.Form.{refusal0, withCredit, accepted, refused}
 use Rattle.association.specs.Start.{refusal16, noAssociation, started}
 use Rattle.association.specs.declared.Association.{Association}
@@ -26,6 +28,7 @@ use Rattle.association.specs.declared.Answer.{Answer}
 use Rattle.association.proofs.Sound.{Keeps}
 use Rattle.association.proofs.Started.{started-sound, none-refused}
 use Rattle.payload.specs.Calls.{arrivalOf, sendOf, sendTo, granted, denied}
+use Rattle.payload.specs.declared.SendAnswer.{SendAnswer}
 use Rattle.payload.proofs.Kept.{arrival-keeps, send-keeps}
 use Rattle.clock.specs.Ticks.{ticked, tickOf}
 use Rattle.clock.proofs.Kept.{tick-keeps}
@@ -79,61 +82,71 @@ refused-did a (arrival size) r = record { refused-same = λ e. refl; credit = re
 refused-did a (send size) r = record { refused-same = λ e. refl; credit = refl; status = λ x. refl }
 refused-did a (tick time) r = record { refused-same = λ e. refl; credit = refl; status = λ x. kept (statusIn x (a .slots)) }
 
--- a chain of refusals
-module _ (a : Association) (c : Call) (k : Answer) (n m : ℕ) where
-  chain-did : Did a c (ofOutcome (k .outcome)) (k .association) → (b d : Bool) →
-      Did a c (ofOutcome ((cond b (refused n a) (cond d (refused m a) k)) .outcome)) ((cond b (refused n a) (cond d (refused m a) k)) .association)
-  chain-did h true d = refused-did a c (refusal n)
-  chain-did h false true = refused-did a c (refusal m)
-  chain-did h false false = h
-
+-- an accepted call is not refused
 not-refused : {A : Type 0} → true ≡ false → A
 not-refused e = let z : _≡_ {A = ℕ} 0 1 = cc in absurd (omega arith)
 
-arrival-did : (a : Association) (size : ℕ) → Did a (arrival size) (answers a (arrival size)) (leaves a (arrival size))
+-- what a call did, by its answer
+abbrev DidBy : Association → Call → Answer → Type 0
+DidBy a c r = Did a c (ofOutcome (r .outcome)) (r .association)
+
+abbrev DidSend : Association → (size : ℕ) → SendAnswer → Type 0
+DidSend a size r = Did a (send size) (ofSend (r .outcome)) (r .association)
+
+arrival-did : (a : Association) (size : ℕ) → DidBy a (arrival size) (arrivalOf a size)
 unfolding arrivalOf held
 arrival-did a size =
-    chain-did a (arrival size) (accepted (withCredit a (credited (a .credit) size))) 0 13
-    (record { refused-same = λ e. not-refused e; credit = refl; status = λ x. refl })
-    (refusal0 a) (refusal13 size)
+    cond-all (DidBy a (arrival size)) (refusal0 a) (refused 0 a) _ (λ e. refused-did a (arrival size) (refusal 0))
+    (λ e. cond-all (DidBy a (arrival size)) (refusal13 size) (refused 13 a) (accepted (withCredit a (credited (a .credit) size)))
+    (λ e. refused-did a (arrival size) (refusal 13))
+    (λ e. record { refused-same = λ e. not-refused e; credit = refl; status = λ x. refl }))
 
 -- the credit after so many ageings
 ageings-held : (k c : ℕ) → held c (replicate k ageing) ≡ agedBy k c
 unfolding held agedBy
 ageings-held zero c = refl
-ageings-held (suc k) c = ageings-held k (aged c)
+ageings-held (suc k) c = ageings-held k (agedOnce c)
 
-tick-did : (a : Association) (time : ℕ) → Did a (tick time) (answers a (tick time)) (leaves a (tick time))
+tick-did : (a : Association) (time : ℕ) → DidBy a (tick time) (tickOf a time)
 unfolding tickOf
 tick-did a time =
-    chain-did a (tick time) (accepted (ticked a time)) 0 12
-    (record {
+    cond-all (DidBy a (tick time)) (refusal0 a) (refused 0 a) _ (λ e. refused-did a (tick time) (refusal 0))
+    (λ e. cond-all (DidBy a (tick time)) (refusal12 (a .time) time) (refused 12 a) (accepted (ticked a time))
+    (λ e. refused-did a (tick time) (refusal 12))
+    (λ e. record {
       refused-same = λ e. not-refused e;
       credit = ageings-held (ageings (a .aged) time) (a .credit);
       status = λ x. expired-statuses x time (a .slots);
-    })
-    (refusal0 a) (refusal12 (a .time) time)
+    }))
 
-to-did : (a : Association) (size : ℕ) (k : Path) → pathOf (a .preferred) (a .slots) ≡ k → Did a (send size) (ofSend (sendTo a size k .outcome)) (sendTo a size k .association)
+-- ACTIVE is not UNVERIFIED
+active-only : (o : Option Status) → foundAs isActive o ≡ true → foundAs isUnverified o ≡ false
+active-only none e = refl
+active-only (some (Unverified k)) e = sym e
+active-only (some Active) e = refl
+active-only (some Deprecated) e = refl
+
+to-did : (a : Association) (size : ℕ) (k : Path) → pathOf (a .preferred) (a .slots) ≡ k → DidSend a size (sendTo a size k)
 unfolding held
 to-did a size NoCarrier e = refused-did a (send size) (refusal 14)
 to-did a size (ToActive n) e =
-    record { refused-same = λ e. refl; credit = rw (picked-active (a .preferred) (a .slots) n e); status = λ x. refl }
-to-did a size (ToUnverified n) e = go (covers (a .credit) size)
-  where
-    go : (b : Bool) → let r = cond b (granted n (withCredit a (a .credit - size))) (denied 15 a) in Did a (send size) (ofSend (r .outcome)) (r .association)
-    go true = record { refused-same = λ e. not-refused e; credit = rw (picked-unverified (a .preferred) (a .slots) n e); status = λ x. refl }
-    go false = refused-did a (send size) (refusal 15)
+    record {
+      refused-same = λ e. refl;
+      credit = rw (active-only (statusAt n (a .slots)) (picked-active (a .preferred) (a .slots) n e));
+      status = λ x. refl;
+    }
+to-did a size (ToUnverified n) e =
+    cond-all (DidSend a size) (covers (a .credit) size) (granted n (withCredit a (a .credit - size))) (denied 15 a)
+    (λ q. record { refused-same = λ e. not-refused e; credit = rw (picked-unverified (a .preferred) (a .slots) n e); status = λ x. refl })
+    (λ q. refused-did a (send size) (refusal 15))
 
-send-did : (a : Association) (size : ℕ) → Did a (send size) (answers a (send size)) (leaves a (send size))
+send-did : (a : Association) (size : ℕ) → DidSend a size (sendOf a size)
 unfolding sendOf
-send-did a size = go (refusal0 a) (refusal13 size)
-  where
-    go : (b d : Bool) → let r = cond b (denied 0 a) (cond d (denied 13 a) (sendTo a size (pathOf (a .preferred) (a .slots)))) in
-        Did a (send size) (ofSend (r .outcome)) (r .association)
-    go true d = refused-did a (send size) (refusal 0)
-    go false true = refused-did a (send size) (refusal 13)
-    go false false = to-did a size (pathOf (a .preferred) (a .slots)) refl
+send-did a size =
+    cond-all (DidSend a size) (refusal0 a) (denied 0 a) _ (λ e. refused-did a (send size) (refusal 0))
+    (λ e. cond-all (DidSend a size) (refusal13 size) (denied 13 a) (sendTo a size (pathOf (a .preferred) (a .slots)))
+    (λ e. refused-did a (send size) (refusal 13))
+    (λ e. to-did a size (pathOf (a .preferred) (a .slots)) refl))
 
 pub did : (a : Association) (c : Call) → Did a c (answers a c) (leaves a c)
 did a (arrival size) = arrival-did a size

@@ -23,14 +23,17 @@ pub data Answered : Type 0 where
   done : Answered
   grantedTo : (slot : ℕ) → Answered
 
+-- what the answer to an arrival or a tick says
 abbrev pub ofOutcome : Outcome → Answered
 ofOutcome Accepted = done
 ofOutcome (Refused r) = refusedBy r
 
+-- what the answer to a send says
 abbrev pub ofSend : SendOutcome → Answered
 ofSend (Granted n) = grantedTo n
 ofSend (Denied r) = refusedBy r
 
+-- the answer to the call
 abbrev pub answers : Association → Call → Answered
 answers a (arrival size) = ofOutcome (arrivalOf a size .outcome)
 answers a (send size) = ofSend (sendOf a size .outcome)

@@ -3,12 +3,13 @@ use Prim.Native.Nat.{ℕ, _-_}
 use mathlib.Core.Bool.{cond}
 use mathlib.Core.List.{List, [], _∷_}
 use lib.ListN.{replicate}
-use Rattle.slot.specs.Found.{statusAt, isUnverified}
+use Rattle.slot.specs.Found.{statusAt, isUnverified, foundAs}
 use Rattle.credit.specs.Credit.{credited}
-use Rattle.credit.specs.Clock.{ageings, aged}
+use Rattle.credit.specs.Clock.{ageings, agedOnce}
 use Rattle.association.specs.declared.Association.{Association}
 use Rattle.history.specs.Calls.{Call, arrival, send, tick, Answered, refusedBy, done, grantedTo, isAccepted}
 
+-- an accepted arrival, a grant to UNVERIFIED, an ageing
 pub data Entry : Type 0 where
   arrived : (size : ℕ) → Entry
   granted : (size : ℕ) → Entry
@@ -18,8 +19,9 @@ pub data Entry : Type 0 where
 abbrev pub booked : (credit : ℕ) → Entry → ℕ
 booked c (arrived size) = credited c size
 booked c (granted size) = c - size
-booked c ageing = aged c
+booked c ageing = agedOnce c
 
+-- the credit after these entries
 unfoldable pub held : (credit : ℕ) → List Entry → ℕ
 held c [] = c
 held c (e ∷ es) = held (booked c e) es
@@ -28,7 +30,7 @@ held c (e ∷ es) = held (booked c e) es
 abbrev pub grantOf : Association → (size : ℕ) → Answered → List Entry
 grantOf found size (refusedBy r) = []
 grantOf found size done = []
-grantOf found size (grantedTo n) = cond (isUnverified (statusAt n (found .slots))) (granted size ∷ []) []
+grantOf found size (grantedTo n) = cond (foundAs isUnverified (statusAt n (found .slots))) (granted size ∷ []) []
 
 -- the entries of a call, by what it found and answered and the time of the last ageing before it. "Ageings: those that accepted ticks make
 -- by the clock rule"

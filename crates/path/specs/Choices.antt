@@ -1,14 +1,14 @@
 -- "Send picks: the preferred slot if ACTIVE; else the lowest ACTIVE slot; else the preferred slot if UNVERIFIED; else the lowest UNVERIFIED
 -- slot; always among carriers."
-use Prim.Native.Nat.{ℕ, zero, suc, _+_}
-use mathlib.Core.Bool.{Bool, true, false, not, cond, _&&_, _||_}
+use Prim.Native.Nat.{ℕ, _+_}
+use mathlib.Core.Bool.{Bool, false, cond, _&&_, _||_}
 use mathlib.Core.List.{List, [], _∷_}
 use lib.Dec.{eqb}
 use Rattle.slot.specs.declared.Status.{Status}
-use Rattle.slot.specs.declared.Status.the-variants.{Unverified, Active, Deprecated}
 use Rattle.slot.specs.declared.Holding.{Holding}
 use Rattle.slot.specs.declared.Holding.the-variants.{Empty, Held}
 use Rattle.slot.specs.declared.Slot.{Slot}
+use Rattle.slot.specs.Found.{slotAt, isActive, isUnverified}
 use Rattle.path.specs.declared.Preference.{Preference}
 use Rattle.path.specs.declared.Preference.the-variants.{NoPreference, Prefers}
 use Rattle.path.specs.declared.Choice.{Choice}
@@ -27,43 +27,37 @@ trafficData = 2
 abbrev pub carries : (traffic : ℕ) → Bool
 carries traffic = eqb traffic trafficBoth || eqb traffic trafficData
 
--- ACTIVE, where that is wanted, or else UNVERIFIED
-abbrev pub stands : (active : Bool) → Status → Bool
-stands active (Unverified k) = not active
-stands active Active = active
-stands active Deprecated = false
+-- a carrier whose status passes the test
+abbrev pub carrierHeld : (Status → Bool) → Holding → Bool
+carrierHeld test Empty = false
+carrierHeld test (Held l) = carries (l .traffic) && test (l .status)
 
--- a carrier with that status
-abbrev pub fitsHeld : (active : Bool) → Holding → Bool
-fitsHeld active Empty = false
-fitsHeld active (Held l) = carries (l .traffic) && stands active (l .status)
+-- "ACTIVE .. among carriers"
+abbrev pub activeCarrier : Slot → Bool
+activeCarrier s = carrierHeld isActive (s .holding)
 
-abbrev pub fits : (active : Bool) → Slot → Bool
-fits active s = fitsHeld active (s .holding)
+-- "UNVERIFIED .. among carriers"
+abbrev pub unverifiedCarrier : Slot → Bool
+unverifiedCarrier s = carrierHeld isUnverified (s .holding)
+
+-- "the preferred slot if" it fits
+abbrev pub preferredIf : (fits : Slot → Bool) → Preference → List Slot → Choice
+preferredIf fits NoPreference ss = Nowhere
+preferredIf fits (Prefers n) ss = cond (fits (slotAt n ss)) (Chosen n) Nowhere
 
 -- "the lowest .. slot" that fits, where the list begins with slot n
-unfoldable pub lowest : (active : Bool) → (n : ℕ) → List Slot → Choice
-lowest active n [] = Nowhere
-lowest active n (s ∷ ss) = cond (fits active s) (Chosen n) (lowest active (n + 1) ss)
-
--- slot n is there and fits
-unfoldable pub fitsAt : (active : Bool) → (n : ℕ) → List Slot → Bool
-fitsAt active n [] = false
-fitsAt active zero (s ∷ ss) = fits active s
-fitsAt active (suc n) (s ∷ ss) = fitsAt active n ss
-
--- "the preferred slot if .."
-abbrev pub preferredIf : (active : Bool) → Preference → List Slot → Choice
-preferredIf active NoPreference ss = Nowhere
-preferredIf active (Prefers n) ss = cond (fitsAt active n ss) (Chosen n) Nowhere
+unfoldable pub lowest : (fits : Slot → Bool) → (n : ℕ) → List Slot → Choice
+lowest fits n [] = Nowhere
+lowest fits n (s ∷ ss) = cond (fits s) (Chosen n) (lowest fits (n + 1) ss)
 
 -- "else"
 abbrev pub orElse : Choice → Choice → Choice
 orElse Nowhere c = c
 orElse (Chosen n) c = Chosen n
 
-abbrev pub choice : (active : Bool) → Preference → List Slot → Choice
-choice active p ss = orElse (preferredIf active p ss) (lowest active 0 ss)
+-- the preferred slot if it fits; else the lowest slot that does
+abbrev pub choice : (fits : Slot → Bool) → Preference → List Slot → Choice
+choice fits p ss = orElse (preferredIf fits p ss) (lowest fits 0 ss)
 
 -- the choice among ACTIVE carriers; else the one among UNVERIFIED carriers
 abbrev pub path : (active unverified : Choice) → Path
@@ -73,4 +67,4 @@ path Nowhere Nowhere = NoCarrier
 
 -- the pick. This is the one rule of the order in which paths are tried
 unfoldable pub pathOf : Preference → List Slot → Path
-pathOf p ss = path (choice true p ss) (choice false p ss)
+pathOf p ss = path (choice activeCarrier p ss) (choice unverifiedCarrier p ss)

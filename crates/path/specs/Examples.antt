@@ -6,7 +6,7 @@ use Rattle.slot.specs.declared.Status.{Status}
 use Rattle.slot.specs.declared.Status.the-variants.{Unverified, Active, Deprecated}
 use Rattle.slot.specs.declared.Slot.{Slot}
 use Rattle.slot.specs.Found.{emptySlot, slotOf}
-use Rattle.path.specs.Choices.{fitsAt, lowest, pathOf}
+use Rattle.path.specs.Choices.{lowest, pathOf}
 use Rattle.path.specs.declared.Preference.the-variants.{NoPreference, Prefers}
 use Rattle.path.specs.declared.Path.the-variants.{ToActive, ToUnverified, NoCarrier}
 
@@ -27,16 +27,16 @@ fewer = holding 0 checked ∷ holding 1 Active ∷ holding 2 checked ∷ emptySl
 -- where ACTIVE carriers are, the preferred one or the lowest is picked, whatever else is preferred
 to-active : map (λ p. pathOf p mixed) (NoPreference ∷ Prefers 0 ∷ Prefers 1 ∷ Prefers 4 ∷ Prefers 5 ∷ Prefers 6 ∷ [])
     ≡ ToActive 3 ∷ ToActive 3 ∷ ToActive 3 ∷ ToActive 4 ∷ ToActive 3 ∷ ToActive 3 ∷ []
-unfolding pathOf lowest fitsAt
+unfolding pathOf lowest
 to-active = refl
 
 -- where none is, the same among UNVERIFIED carriers
 to-unverified : map (λ p. pathOf p fewer) (NoPreference ∷ Prefers 1 ∷ Prefers 2 ∷ Prefers 5 ∷ [])
     ≡ ToUnverified 0 ∷ ToUnverified 0 ∷ ToUnverified 2 ∷ ToUnverified 0 ∷ []
-unfolding pathOf lowest fitsAt
+unfolding pathOf lowest
 to-unverified = refl
 
 -- signalling alone and DEPRECATED carry nothing
 to-none : pathOf (Prefers 0) (holding 1 Active ∷ holding 1 checked ∷ holding 0 Deprecated ∷ []) ≡ NoCarrier
-unfolding pathOf lowest fitsAt
+unfolding pathOf lowest
 to-none = refl

@@ -1,11 +1,13 @@
-// The choice of path: which slot a payload may go to. Depends on slot and boolean.
+// The choice of path: which slot a payload may go to. Depends on slots, slot and boolean.
 // The functions take the slots and not the association, so that they serve an association with several sets of slots.
 use slot::Holding;
 use slot::SLOT_COUNT;
 use slot::Slot;
 use slot::Status;
 ghost use mathlib.Core.Path.{_≡_};
-ghost use Rattle.path.specs.Choices.{carries, stands, fits, fitsAt, lowest, choice, pathOf};
+ghost use Rattle.slot.specs.Found.{slotAt};
+ghost use Rattle.path.specs.Choices.{carries, lowest, choice, pathOf};
+ghost use Rattle.path.specs.Wanted.{wantedStatus, wanted};
 
 // The traffic types that carry payload: both kinds of traffic, and data alone.
 pub const TRAFFIC_BOTH: u8 = 0;
@@ -39,7 +41,7 @@ pub fn is_carrier(traffic: u8) -> bool
 
 // The status is ACTIVE, where that is wanted, or else UNVERIFIED.
 fn has_status(status: Status, active: bool) -> bool
-    ensures { λ r. ⌜ r ≡ stands active status ⌝ }
+    ensures { λ r. ⌜ r ≡ wantedStatus active status ⌝ }
 {
     match status {
         Status::Unverified(_) => !active,
@@ -50,7 +52,7 @@ fn has_status(status: Status, active: bool) -> bool
 
 // The slot holds a carrier with the status that is wanted.
 fn is_fit(slot: Slot, active: bool) -> bool
-    ensures { λ r. ⌜ r ≡ fits active slot ⌝ }
+    ensures { λ r. ⌜ r ≡ wanted active slot ⌝ }
 {
     let holding = slot.holding;
     match holding {
@@ -64,7 +66,7 @@ fn is_fit(slot: Slot, active: bool) -> bool
 
 // The lowest slot that fits.
 fn lowest_fit(slots: [Slot; SLOT_COUNT], active: bool) -> Choice
-    ensures { λ r. ⌜ r ≡ lowest active 0 slots ⌝ }
+    ensures { λ r. ⌜ r ≡ lowest (wanted active) 0 slots ⌝ }
 {
     let held = slots;
     let mut i: usize = 0;
@@ -80,7 +82,7 @@ fn lowest_fit(slots: [Slot; SLOT_COUNT], active: bool) -> Choice
 
 // The slot of a number is there and fits.
 fn fits_at(slots: [Slot; SLOT_COUNT], active: bool, n: usize) -> bool
-    ensures { λ r. ⌜ r ≡ fitsAt active n slots ⌝ }
+    ensures { λ r. ⌜ r ≡ wanted active (slotAt n slots) ⌝ }
 {
     let held = slots;
     if n < SLOT_COUNT {
@@ -92,7 +94,7 @@ fn fits_at(slots: [Slot; SLOT_COUNT], active: bool, n: usize) -> bool
 
 // The preferred slot if it fits, or else the lowest that does.
 fn choose(slots: [Slot; SLOT_COUNT], preference: Preference, active: bool) -> Choice
-    ensures { λ r. ⌜ r ≡ choice active preference slots ⌝ }
+    ensures { λ r. ⌜ r ≡ choice (wanted active) preference slots ⌝ }
 {
     match preference {
         Preference::NoPreference => lowest_fit(slots, active),

@@ -1,17 +1,14 @@
--- Arrival and send, by what each test of the code finds. Assumes nothing.
+-- A send, by the path that was picked. Assumes nothing.
 use mathlib.Core.Path.{_≡_, _∙_, ap}
 use mathlib.Core.Bool.{Bool, true, false}
 use Prim.Native.Nat.{ℕ, _-_}
 use Rattle.path.specs.declared.Path.{Path}
 use Rattle.path.specs.declared.Path.the-variants.{ToActive, ToUnverified, NoCarrier}
 use Rattle.credit.specs.Credit.{covers}
-use Rattle.association.specs.Form.{withCredit, accepted}
+use Rattle.association.specs.Form.{withCredit}
 use Rattle.association.specs.declared.Association.{Association}
 use Rattle.payload.specs.declared.SendAnswer.{SendAnswer}
 use Rattle.payload.specs.Calls.{granted, denied, sendTo}
-
-pub credit-added : (a : Association) (x y : ℕ) → x ≡ y → accepted (withCredit a x) ≡ accepted (withCredit a y)
-credit-added a x y p = rw p
 
 module _ (a : Association) (size : ℕ) (k : Path) where
   pub send-none : k ≡ NoCarrier → denied 14 a ≡ sendTo a size k

@@ -11,7 +11,7 @@ use Rattle.slot.specs.Found.{emptySlot, slotOf}
 use Rattle.slot.specs.Clashes.{clash}
 use Rattle.slots.specs.Rules.{clashing}
 use Rattle.path.specs.declared.Preference.the-variants.{Prefers}
-use Rattle.path.specs.Choices.{lowest, fitsAt, pathOf}
+use Rattle.path.specs.Choices.{lowest, pathOf}
 use Rattle.association.specs.declared.PeerId.the-variants.{NoneSeen}
 use Rattle.association.specs.declared.Association.{Association}
 use Rattle.association.specs.Form.{refusal0, accepted, refused}
@@ -56,5 +56,5 @@ sends : (map (sendOf (waiting 1000)) (0 ∷ 65536 ∷ 1000 ∷ 999 ∷ [])
     × (map (sendOf (verified 0)) (65536 ∷ 65535 ∷ []) ≡ denied 13 (verified 0) ∷ granted 1 (verified 0) ∷ [])
     × (map (sendOf (closed 1000)) (0 ∷ 1 ∷ []) ≡ denied 13 (closed 1000) ∷ denied 14 (closed 1000) ∷ [])
     × (map (sendOf (broken 1000)) (0 ∷ 1 ∷ []) ≡ denied 0 (broken 1000) ∷ denied 0 (broken 1000) ∷ [])
-unfolding sendOf pathOf lowest fitsAt refusal0 clashing records.some clash
+unfolding sendOf pathOf lowest refusal0 clashing records.some clash
 sends = (refl, refl, refl, refl)

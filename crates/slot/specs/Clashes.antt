@@ -22,5 +22,6 @@ clashHeld Empty k = false
 clashHeld (Held l) Empty = false
 clashHeld (Held l) (Held m) = sameAddress (l .address) (m .address) || sameNonce (l .status) (m .status)
 
+-- the same, of two slots
 unfoldable pub clash : Slot → Slot → Bool
 clash x y = clashHeld (x .holding) (y .holding)

@@ -9,12 +9,15 @@ use Rattle.slot.specs.declared.Holding.{Holding}
 use Rattle.slot.specs.declared.Holding.the-variants.{Empty, Held}
 use Rattle.slot.specs.declared.Slot.{Slot}
 
+-- a locator at a time
 abbrev pub expireLocator : (time : ℕ) → Locator → Locator
 expireLocator time l = cond (leb (l .expiry) time) (withStatus l Deprecated) l
 
+-- an empty slot stays empty
 abbrev pub expireHeld : (time : ℕ) → Holding → Holding
 expireHeld time Empty = Empty
 expireHeld time (Held l) = Held (expireLocator time l)
 
+-- a slot at a time
 abbrev pub expireSlot : (time : ℕ) → Slot → Slot
 expireSlot time s = record { holding = expireHeld time (s .holding) }

@@ -1,8 +1,9 @@
 -- What slots hold: "A slot is empty or holds 16 address bytes, a traffic type, an expiry time and a status."
-use Prim.Native.Nat.{ℕ, zero, suc}
+use Prim.Native.Nat.{ℕ}
 use mathlib.Core.Bool.{Bool, true, false, cond}
 use mathlib.Core.Option.{Option, none, some}
 use mathlib.Core.List.{List, [], _∷_}
+use lib.ListN.{getD}
 use Rattle.address.specs.declared.Address.{Address}
 use Rattle.address.specs.Rules.{sameAddress}
 use Rattle.slot.specs.declared.Status.{Status}
@@ -16,10 +17,11 @@ use Rattle.slot.specs.declared.Slot.{Slot}
 abbrev pub slotCount : ℕ
 slotCount = 8
 
--- a slot that holds nothing, and one that holds a locator
+-- a slot that holds nothing
 abbrev pub emptySlot : Slot
 emptySlot = record { holding = Empty }
 
+-- a slot that holds a locator
 abbrev pub slotOf : Locator → Slot
 slotOf l = record { holding = Held l }
 
@@ -42,19 +44,32 @@ unfoldable pub statusIn : Address → List Slot → Option Status
 statusIn x [] = none
 statusIn x (s ∷ ss) = orElse (statusHeld x (s .holding)) (statusIn x ss)
 
--- the status of slot n; none where it is empty or not there
+-- slot n; an empty one where there is none
+abbrev pub slotAt : ℕ → List Slot → Slot
+slotAt n ss = getD ss n emptySlot
+
+-- the status of what is held, if anything is
 abbrev pub statusOf : Holding → Option Status
 statusOf Empty = none
 statusOf (Held l) = some (l .status)
 
-unfoldable pub statusAt : ℕ → List Slot → Option Status
-statusAt n [] = none
-statusAt zero (s ∷ ss) = statusOf (s .holding)
-statusAt (suc n) (s ∷ ss) = statusAt n ss
+-- the status that slot n has, if it holds anything
+abbrev pub statusAt : ℕ → List Slot → Option Status
+statusAt n ss = statusOf (slotAt n ss .holding)
+
+-- the status is ACTIVE
+abbrev pub isActive : Status → Bool
+isActive (Unverified k) = false
+isActive Active = true
+isActive Deprecated = false
 
 -- the status is UNVERIFIED
-abbrev pub isUnverified : Option Status → Bool
-isUnverified none = false
-isUnverified (some (Unverified k)) = true
-isUnverified (some Active) = false
-isUnverified (some Deprecated) = false
+abbrev pub isUnverified : Status → Bool
+isUnverified (Unverified k) = true
+isUnverified Active = false
+isUnverified Deprecated = false
+
+-- there is a status, and it passes the test
+abbrev pub foundAs : (Status → Bool) → Option Status → Bool
+foundAs test none = false
+foundAs test (some s) = test s

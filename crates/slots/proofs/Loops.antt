@@ -1,7 +1,7 @@
 -- Loops over a list: one that leaves at the first element that passes a test, and one that maps every element in its place. Assumes nothing.
 use Prim.Native.Nat.{ℕ, zero, suc, _+_, _≤_, _<_}
 use mathlib.Core.Path.{_≡_, refl, ap, _∙_}
-use mathlib.Core.Bool.{Bool, true, false}
+use mathlib.Core.Bool.{Bool, true, false, cond, _||_}
 use mathlib.Core.List.{List, [], _∷_, map}
 use lib.ListN.{length, getD, set, drop, drop-of-length-le}
 use lib.Seq.{drop-cons}
@@ -9,40 +9,42 @@ use native.Mathlib.Numerals.{add-one}
 use native.Mathlib.Omega.{arith}
 use Rattle.octets.specs.Records.{some}
 use Rattle.slot.specs.Clashes.{clash}
-use Rattle.slot.specs.declared.Slot.{Slot}
 use Rattle.slots.specs.Rules.{clashing}
 
--- `whole` is what a loop with an early return answers, and b what it finds at j: whether the element there passes the test
-module _ {A : Type 0} (test : A → Bool) (xs : List A) (n j : ℕ) (d : A) (whole b : Bool) where
-  -- it passes
-  pub some-hit : length xs ≡ n → j < n → whole ≡ some test (drop j xs) → b ≡ test (getD xs j d) → b ≡ true → true ≡ whole
-  unfolding some
-  some-hit e h p q r = rw (p, drop-cons xs j d (omega arith), ← q, r)
+-- A loop with an early return. What it works out is `over`, a function of an index and the list from there on: `found` of the first index where
+-- the element, with those after it, passes the test, or `none` where there is no such index
+module _ {A R : Type 0} (over : ℕ → List A → R) (test : A → List A → Bool) (found : ℕ → R) (none : R) where
+  -- the loop's turns at j: `whole` is the loop's answer, and b what the code found
+  pub record Loop : Type 0 where
+    -- the element at j passes
+    pub hit : (xs : List A) (n j : ℕ) (d : A) (whole : R) (b : Bool) → length xs ≡ n → j < n → whole ≡ over j (drop j xs) →
+        b ≡ test (getD xs j d) (drop (j + 1) xs) → b ≡ true → found j ≡ whole
+    -- it does not, and the elements after it decide
+    pub miss : (xs : List A) (n j : ℕ) (d : A) (whole : R) (b : Bool) → length xs ≡ n → j < n → whole ≡ over j (drop j xs) →
+        b ≡ test (getD xs j d) (drop (j + 1) xs) → b ≡ false → whole ≡ over (j + 1) (drop (j + 1) xs)
+    -- none is left
+    pub end : (xs : List A) (n j : ℕ) (whole : R) → length xs ≡ n → n ≤ j → whole ≡ over j (drop j xs) → none ≡ whole
 
-  -- it does not, and the elements after it decide
-  pub some-miss : length xs ≡ n → j < n → whole ≡ some test (drop j xs) → b ≡ test (getD xs j d) → b ≡ false → whole ≡ some test (drop (j + 1) xs)
-  unfolding some
-  some-miss e h p q r = p ∙ rw (drop-cons xs j d (omega arith)) (simp (← q, r, add-one j))
+  pub loop : ((n : ℕ) → over n [] ≡ none) → ((n : ℕ) (x : A) (xs : List A) → over n (x ∷ xs) ≡ cond (test x xs) (found n) (over (n + 1) xs)) → Loop
+  loop stops steps = record {
+    hit = λ xs n j d whole b e h p q r. rw (p, drop-cons xs j d (omega arith), steps, ← add-one j, ← q, r);
+    miss = λ xs n j d whole b e h p q r. p ∙ rw (drop-cons xs j d (omega arith), steps, ← add-one j, ← q, r);
+    end = λ xs n j whole e h p. rw (p, drop-of-length-le xs {i = j} (omega arith), stops);
+  }
 
--- none is left
-pub some-end : {A : Type 0} (test : A → Bool) (xs : List A) (n j : ℕ) (whole : Bool) → length xs ≡ n → n ≤ j → whole ≡ some test (drop j xs) → false ≡ whole
+or-cond : (a b : Bool) → (a || b) ≡ cond a true b
+or-cond true b = refl
+or-cond false b = refl
+
+-- whether some element passes a test
+pub some-loop : {A : Type 0} (test : A → Bool) → Loop (λ n xs. some test xs) (λ x xs. test x) (λ n. true) false
 unfolding some
-some-end test xs n j whole e h p = rw (p, drop-of-length-le xs {i = j} (omega arith))
+some-loop test = loop (λ n xs. some test xs) (λ x xs. test x) (λ n. true) false (λ n. refl) (λ n x xs. or-cond (test x) (some test xs))
 
--- the same, for slots of which two clash: b is whether the slot at j clashes with one after it
-module _ (xs : List Slot) (n j : ℕ) (d : Slot) (whole b : Bool) where
-  pub clash-hit : length xs ≡ n → j < n → whole ≡ clashing (drop j xs) → b ≡ some (clash (getD xs j d)) (drop (j + 1) xs) → b ≡ true → true ≡ whole
-  unfolding clashing
-  clash-hit e h p q r = rw (p, drop-cons xs j d (omega arith), ← add-one j, ← q, r)
-
-  pub clash-miss : length xs ≡ n → j < n → whole ≡ clashing (drop j xs) → b ≡ some (clash (getD xs j d)) (drop (j + 1) xs) → b ≡ false →
-      whole ≡ clashing (drop (j + 1) xs)
-  unfolding clashing
-  clash-miss e h p q r = p ∙ rw (drop-cons xs j d (omega arith)) (simp (← add-one j, ← q, r))
-
-pub clash-end : (xs : List Slot) (n j : ℕ) (whole : Bool) → length xs ≡ n → n ≤ j → whole ≡ clashing (drop j xs) → false ≡ whole
+-- whether a slot clashes with one after it
+pub clash-loop : Loop (λ n xs. clashing xs) (λ x xs. some (clash x) xs) (λ n. true) false
 unfolding clashing
-clash-end xs n j whole e h p = rw (p, drop-of-length-le xs {i = j} (omega arith))
+clash-loop = loop (λ n xs. clashing xs) (λ x xs. some (clash x) xs) (λ n. true) false (λ n. refl) (λ n x xs. or-cond (some (clash x) xs) (clashing xs))
 
 module _ {A : Type 0} (f : A → A) where
   -- the first n elements by f, the others as they are

@@ -1,5 +1,5 @@
 -- `clock::advance` meets its contract. Assumes nothing.
-use Rattle.clock.proofs.Cases.{clock-moved}
+use Rattle.association.proofs.Answers.{clock-same}
 use Rattle.clock.proofs.advance.Statement.{statement}
 use Rattle.clock.proofs.advance.Tie as tie
 
@@ -13,7 +13,7 @@ age-credit-requires : tie.Need-age-credit-requires
 age-credit-requires c κs = tt
 
 returns : tie.Need-returns
-returns c = search clock-moved
+returns c = search clock-same
 
 pub advance-spec : {M : Type 1} → statement M
 advance-spec =

@@ -1,7 +1,7 @@
 -- `clock::tick` meets its contract: each answer by the tests that led to it. Assumes nothing.
 use Rattle.boolean.proofs.Laws.{chain}
 use Rattle.clock.specs.Ticks.{tickOf}
-use Rattle.clock.proofs.Cases.{accepts}
+use Rattle.association.proofs.Answers.{accepts}
 use Rattle.clock.proofs.tick.Statement.{statement}
 use Rattle.clock.proofs.tick.Tie as tie
 

@@ -1,5 +1,5 @@
 -- `path::is_fit` meets its contract. Assumes nothing.
-use Rattle.path.proofs.Cases.{fits-held}
+use Rattle.path.proofs.Cases.{wanted-held}
 use borrow.Author.Needs.{needs}
 use Rattle.path.proofs.is_fit.Statement.{statement}
 use Rattle.path.proofs.is_fit.Tie as tie
@@ -23,7 +23,7 @@ returns : tie.Need-returns
 returns c = search needs
 
 returns-2 : tie.Need-returns-2
-returns-2 c = search fits-held
+returns-2 c = search wanted-held
 
 pub is-fit-spec : {M : Type 1} → statement M
 is-fit-spec =

@@ -4,12 +4,13 @@ use mathlib.Core.Path.{_≡_, refl}
 use native.Mathlib.Omega.{arith}
 use lib.ListN.{drop}
 use Rattle.path.specs.Choices.{lowest}
-use Rattle.path.proofs.Cases.{lowest-hit, lowest-miss, lowest-end}
+use Rattle.path.specs.Wanted.{wanted}
+use Rattle.path.proofs.Cases.{lowest-loop}
 use Rattle.path.proofs.lowest_fit.Statement.{statement}
 use Rattle.path.proofs.lowest_fit.Tie as tie
 
 abbrev Inv-loop : tie.InvT-loop
-Inv-loop active held i₀ i = lowest active 0 held ≡ lowest active i (drop i held)
+Inv-loop active held i₀ i = lowest (wanted active) 0 held ≡ lowest (wanted active) i (drop i held)
 
 abbrev μ-loop : tie.MeasureT-loop
 μ-loop active held i₀ i = 8 - i
@@ -27,7 +28,7 @@ is-fit-requires : tie.Need-is-fit-requires Inv-loop μ-loop
 is-fit-requires c κs = tt
 
 returns : tie.Need-returns Inv-loop μ-loop
-returns c = search lowest-hit
+returns c = search ((lowest-loop (wanted (c .before .before .before .before .before .args .active))) .hit)
 
 add-i : tie.Need-add-i Inv-loop μ-loop
 add-i c = omega arith
@@ -36,10 +37,10 @@ loop-less : tie.Need-loop-less Inv-loop μ-loop
 loop-less c = omega arith
 
 loop-again : tie.Need-loop-again Inv-loop μ-loop
-loop-again c = search lowest-miss
+loop-again c = search ((lowest-loop (wanted (c .before .before .before .before .before .args .active))) .miss)
 
 returns-2 : tie.Need-returns-2 Inv-loop μ-loop
-returns-2 c = search lowest-end
+returns-2 c = search ((lowest-loop (wanted (c .before .before .args .active))) .end)
 
 pub lowest-fit-spec : {M : Type 1} → statement M
 lowest-fit-spec =

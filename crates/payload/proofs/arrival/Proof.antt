@@ -1,7 +1,7 @@
 -- `payload::arrival` meets its contract: each answer by the tests that led to it. Assumes nothing.
 use Rattle.boolean.proofs.Laws.{chain}
 use Rattle.payload.specs.Calls.{arrivalOf}
-use Rattle.payload.proofs.Cases.{credit-added}
+use Rattle.association.proofs.Answers.{accepts, credit-same}
 use Rattle.payload.proofs.arrival.Statement.{statement}
 use Rattle.payload.proofs.arrival.Tie as tie
 
@@ -24,7 +24,7 @@ add-arrival-requires c κs = tt
 
 returns-3 : tie.Need-returns-3
 unfolding arrivalOf
-returns-3 c = search (chain, credit-added)
+returns-3 c = search (chain, accepts, credit-same)
 
 pub arrival-spec : {M : Type 1} → statement M
 arrival-spec =

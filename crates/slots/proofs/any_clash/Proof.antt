@@ -4,7 +4,7 @@ use mathlib.Core.Path.{_≡_, refl}
 use native.Mathlib.Omega.{arith}
 use lib.ListN.{drop}
 use Rattle.slots.specs.Rules.{clashing}
-use Rattle.slots.proofs.Loops.{clash-hit, clash-miss, clash-end}
+use Rattle.slots.proofs.Loops.{clash-loop}
 use Rattle.slots.proofs.any_clash.Statement.{statement}
 use Rattle.slots.proofs.any_clash.Tie as tie
 
@@ -30,7 +30,7 @@ clashes-from-requires : tie.Need-clashes-from-requires Inv-loop μ-loop
 clashes-from-requires c κs = tt
 
 returns : tie.Need-returns Inv-loop μ-loop
-returns c = search clash-hit
+returns c = search (clash-loop .hit)
 
 add-i : tie.Need-add-i Inv-loop μ-loop
 add-i c = omega arith
@@ -39,10 +39,10 @@ loop-less : tie.Need-loop-less Inv-loop μ-loop
 loop-less c = omega arith
 
 loop-again : tie.Need-loop-again Inv-loop μ-loop
-loop-again c = search clash-miss
+loop-again c = search (clash-loop .miss)
 
 returns-2 : tie.Need-returns-2 Inv-loop μ-loop
-returns-2 c = search clash-end
+returns-2 c = search (clash-loop .end)
 
 pub any-clash-spec : {M : Type 1} → statement M
 any-clash-spec =

@@ -5,7 +5,7 @@ use native.Mathlib.Omega.{arith}
 use lib.ListN.{drop}
 use Rattle.octets.specs.Records.{some}
 use Rattle.slot.specs.Clashes.{clash}
-use Rattle.slots.proofs.Loops.{some-hit, some-miss, some-end}
+use Rattle.slots.proofs.Loops.{some-loop}
 use Rattle.slots.proofs.clashes_from.Statement.{statement}
 use Rattle.slots.proofs.clashes_from.Tie as tie
 
@@ -28,7 +28,7 @@ clashes-requires : tie.Need-clashes-requires Inv-loop μ-loop
 clashes-requires c κs = tt
 
 returns : tie.Need-returns Inv-loop μ-loop
-returns c = search some-hit
+returns c = search ((some-loop (clash (c .before .before .before .before .before .args .slot))) .hit)
 
 add-j : tie.Need-add-j Inv-loop μ-loop
 add-j c = omega arith
@@ -37,10 +37,10 @@ loop-less : tie.Need-loop-less Inv-loop μ-loop
 loop-less c = omega arith
 
 loop-again : tie.Need-loop-again Inv-loop μ-loop
-loop-again c = search some-miss
+loop-again c = search ((some-loop (clash (c .before .before .before .before .before .args .slot))) .miss)
 
 returns-2 : tie.Need-returns-2 Inv-loop μ-loop
-returns-2 c = search some-end
+returns-2 c = search ((some-loop (clash (c .before .before .args .slot))) .end)
 
 pub clashes-from-spec : {M : Type 1} → statement M
 clashes-from-spec =
