@@ -3,8 +3,10 @@ use mathlib.Core.Path.{_≡_}
 use mathlib.Core.Bool.{Bool, false, _||_}
 use Prim.Native.Nat.{ℕ, _<_, _≤_}
 use lib.Dec.{leb, ltb}
+use lib.ListN.{length}
 use borrow.Author.Tests.{leb-false, ltb-false, le-ltb, lt-leb}
 use Rattle.boolean.proofs.Laws.{or-false-left, or-false-right}
+use Rattle.slot.specs.Found.{slotCount}
 use Rattle.slots.specs.Rules.{clashing}
 use Rattle.credit.specs.Credit.{creditLimit}
 use Rattle.credit.specs.Clock.{timeLimit}
@@ -53,16 +55,25 @@ not-refused a s =
       s .apart,
     )
 
--- a call keeps associations sound: what it leaves of one that refusal 0 does not refuse, refusal 0 does not refuse
+-- an association with its eight slots that refusal 0 does not refuse. A call can be handed no other number of slots: they are an array
+pub record Formed (a : Association) : Type 0 where
+  pub whole : length (a .slots) ≡ slotCount
+  pub unrefused : refusal0 a ≡ false
+
+-- a call keeps associations so
 abbrev pub Keeps : (call : Association → Association) → Type 0
-Keeps call = (a : Association) → refusal0 a ≡ false → refusal0 (call a) ≡ false
+Keeps call = (a : Association) → Formed a → Formed (call a)
 
--- the answer leaves an association that refusal 0 does not refuse
+-- the answer leaves such an association
 abbrev pub Leaves : Answer → Type 0
-Leaves r = refusal0 (r .association) ≡ false
+Leaves r = Formed (r .association)
 
-pub credit-sound : (a : Association) (c : ℕ) → refusal0 a ≡ false → c ≤ creditLimit → refusal0 (withCredit a c) ≡ false
-credit-sound a c p h =
-    let s = sound a p in
-    not-refused (withCredit a c)
-    (record { time = s .time; aged = s .aged; credit = h; next = s .next; preferred = s .preferred; apart = s .apart })
+pub credit-formed : (a : Association) (c : ℕ) → Formed a → c ≤ creditLimit → Formed (withCredit a c)
+credit-formed a c p h =
+    let s = sound a (p .unrefused) in
+    record {
+      whole = p .whole;
+      unrefused =
+          not-refused (withCredit a c)
+          (record { time = s .time; aged = s .aged; credit = h; next = s .next; preferred = s .preferred; apart = s .apart });
+    }

@@ -18,7 +18,7 @@ use Rattle.credit.specs.Clock.{timeLimit}
 use Rattle.association.specs.declared.Association.{Association}
 use Rattle.association.specs.Form.{accepted, refused, refusal0}
 use Rattle.association.specs.Start.{unusableSpi, refusal16, noAssociation, startSlots, started, startOf}
-use Rattle.association.proofs.Sound.{not-refused}
+use Rattle.association.proofs.Sound.{not-refused, Formed}
 
 module _ (time outbound inbound : ℕ) (address : Address) (lifetime : ℕ) where
   abbrev bad : Bool
@@ -41,11 +41,14 @@ module _ (time outbound inbound : ℕ) (address : Address) (lifetime : ℕ) wher
   start-early b p q = leb-false timeLimit time (or-false-left (leb timeLimit time) others (sym p ∙ q))
 
   -- refusal 0 does not refuse what an accepted start makes
-  pub started-sound : bad ≡ false → refusal0 (started time outbound inbound address lifetime) ≡ false
+  pub started-formed : bad ≡ false → Formed (started time outbound inbound address lifetime)
   unfolding clashing records.some clash
-  started-sound p =
-      not-refused (started time outbound inbound address lifetime)
-      (record { time = start-early bad refl p; aged = omega arith; credit = omega arith; next = omega arith; preferred = refl; apart = refl })
+  started-formed p = record {
+    whole = refl;
+    unrefused =
+        not-refused (started time outbound inbound address lifetime)
+        (record { time = start-early bad refl p; aged = omega arith; credit = omega arith; next = omega arith; preferred = refl; apart = refl });
+  }
 
   -- an accepted start holds its address ACTIVE, and no other
   pub started-status : (x : Address) → statusIn x (startSlots time address lifetime) ≡ cond (sameAddress x address) (some Active) none

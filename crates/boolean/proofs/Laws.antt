@@ -1,6 +1,25 @@
 -- Laws of tests that the library lacks. Assumes nothing.
 use mathlib.Core.Path.{_≡_, refl}
+use Prim.Native.Nat.{ℕ}
+use native.Mathlib.Omega.{arith}
 use mathlib.Core.Bool.{Bool, true, false, cond, _&&_, _||_}
+
+-- the two answers differ
+pub apart : {A : Type 0} → true ≡ false → A
+apart e = let z : _≡_ {A = ℕ} 0 1 = cc in absurd (omega arith)
+
+-- one test of two decides where the other is known
+pub and-true : (b : Bool) → (b && true) ≡ b
+and-true true = refl
+and-true false = refl
+
+pub and-false : (b : Bool) → (b && false) ≡ false
+and-false true = refl
+and-false false = refl
+
+pub or-true : (a b : Bool) → b ≡ true → (a || b) ≡ true
+or-true true b e = refl
+or-true false b e = e
 
 -- neither of two tests holds where their disjunction does not
 pub or-false-left : (a b : Bool) → (a || b) ≡ false → a ≡ false

@@ -7,6 +7,10 @@ use native.Mathlib.Omega.{arith}
 use borrow.Author.Tests.{le-leb, lt-leb, leb-true}
 use Rattle.credit.specs.Clock.{ageingInterval, due, agedOnce, agedBy, creditAt, lastAgeing}
 
+-- an ageing leaves at most seven eighths
+pub aged-once : (c : ℕ) → 8 * agedOnce c ≤ 7 * c
+aged-once c = omega arith
+
 -- before the last ageing none is due, and after it the time that has passed decides
 pub due-before : (last time : ℕ) → time < last → false ≡ due last time
 due-before last time h = sym (lt-leb (last + ageingInterval) time (omega arith))

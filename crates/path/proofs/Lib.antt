@@ -1,2 +1,3 @@
 pub mod Cases
+pub mod Lowest
 pub mod Picked

@@ -1,9 +1,8 @@
 -- What is picked fits: a slot that is picked holds a carrier with the status that the path names. Assumes nothing.
 use mathlib.Core.Path.{_≡_, refl, _∙_, ap}
 use mathlib.Core.Bool.{Bool, true, false, cond}
-use mathlib.Core.List.{List, [], _∷_}
-use Prim.Native.Nat.{ℕ, suc, _+_, _-_, _≤_}
-use native.Mathlib.Omega.{arith}
+use mathlib.Core.List.{List}
+use Prim.Native.Nat.{ℕ, _-_}
 use Rattle.boolean.proofs.Laws.{and-true-right}
 use Rattle.slot.specs.declared.Status.{Status}
 use Rattle.slot.specs.declared.Holding.{Holding}
@@ -16,24 +15,8 @@ use Rattle.path.specs.declared.Choice.{Choice}
 use Rattle.path.specs.declared.Choice.the-variants.{Nowhere, Chosen}
 use Rattle.path.specs.declared.Path.{Path}
 use Rattle.path.specs.declared.Path.the-variants.{ToActive, ToUnverified, NoCarrier}
+use Rattle.path.proofs.Lowest.{numberIn, lowest-fit}
 use Rattle.path.specs.Choices.{carries, carrierHeld, activeCarrier, unverifiedCarrier, lowest, preferredIf, orElse, choice, path, pathOf}
-
-abbrev numberIn : Choice → ℕ
-numberIn Nowhere = 0
-numberIn (Chosen n) = n
-
--- the lowest slot that fits does, where the list begins with slot n
-lowest-fits : (fits : Slot → Bool) (n : ℕ) (ss : List Slot) (i : ℕ) → lowest fits n ss ≡ Chosen i → (n ≤ i) × (fits (slotAt (i - n) ss) ≡ true)
-unfolding lowest
-lowest-fits fits n [] i e = let z : _≡_ {A = ℕ} 0 1 = cc in absurd (omega arith)
-lowest-fits fits n (s ∷ ss) i e = go (λ q. lowest-fits fits (n + 1) ss i q) (fits s) refl e
-  where
-    go : (lowest fits (n + 1) ss ≡ Chosen i → (n + 1 ≤ i) × (fits (slotAt (i - (n + 1)) ss) ≡ true)) → (b : Bool) → fits s ≡ b →
-        cond b (Chosen n) (lowest fits (n + 1) ss) ≡ Chosen i → (n ≤ i) × (fits (slotAt (i - n) (s ∷ ss)) ≡ true)
-    go ih true q e = let z : n ≡ i = ap numberIn e in (omega arith, let y : i - n ≡ 0 = omega arith in rw y q)
-    go ih false q e =
-        let r = ih e in
-        let y : i - n ≡ suc (i - (n + 1)) = omega arith in (omega arith, rw y (r .1))
 
 preferred-fits : (fits : Slot → Bool) (p : Preference) (ss : List Slot) (i : ℕ) → preferredIf fits p ss ≡ Chosen i → fits (slotAt i ss) ≡ true
 preferred-fits fits NoPreference ss i e = cc
@@ -47,7 +30,7 @@ choice-fits : (fits : Slot → Bool) (p : Preference) (ss : List Slot) (i : ℕ)
 choice-fits fits p ss i e = go (preferredIf fits p ss) refl e
   where
     go : (f : Choice) → preferredIf fits p ss ≡ f → orElse f (lowest fits 0 ss) ≡ Chosen i → fits (slotAt i ss) ≡ true
-    go Nowhere q e = let y : i - 0 ≡ i = omega arith in rw y at ((lowest-fits fits 0 ss i e) .1)
+    go Nowhere q e = lowest-fit fits ss i e
     go (Chosen n) q e = preferred-fits fits p ss i (q ∙ e)
 
 -- a carrier that passes a test has a status that does

@@ -1,48 +1,33 @@
--- What expiry does to a slot: two slots that do not clash still do not, and the status of an address stays or turns DEPRECATED. Assumes nothing.
+-- What expiry does to a slot: no check appears, and the status of an address stays or turns DEPRECATED. Assumes nothing.
 use mathlib.Core.Path.{_≡_, refl}
 use mathlib.Core.Bool.{Bool, true, false, cond}
 use mathlib.Core.Option.{Option, none, some}
 use mathlib.Core.Logic.{_⊎_, inl, inr}
 use Prim.Native.Nat.{ℕ}
 use lib.Dec.{leb}
-use Rattle.boolean.proofs.Laws.{or-false-left}
 use Rattle.address.specs.declared.Address.{Address}
 use Rattle.address.specs.Rules.{sameAddress}
 use Rattle.slot.specs.declared.Status.{Status}
-use Rattle.slot.specs.declared.Status.the-variants.{Unverified, Active, Deprecated}
+use Rattle.slot.specs.declared.Status.the-variants.{Deprecated}
 use Rattle.slot.specs.declared.Locator.{Locator}
 use Rattle.slot.specs.declared.Holding.{Holding}
 use Rattle.slot.specs.declared.Holding.the-variants.{Empty, Held}
-use Rattle.slot.specs.declared.Slot.{Slot}
-use Rattle.slot.specs.Found.{withStatus, statusHeld}
-use Rattle.slot.specs.Clashes.{sameNonce, clashHeld, clash}
-use Rattle.slot.specs.Expiry.{expireHeld, expireSlot}
+use Rattle.slot.specs.Found.{withStatus, statusHeld, isUnverified}
+use Rattle.slot.specs.Expiry.{expireLocator, expireHeld}
+use Rattle.slot.proofs.Settled.{Settles}
 
--- DEPRECATED has no nonce outstanding
-pub nonce-deprecated : (s : Status) → sameNonce s Deprecated ≡ false
-nonce-deprecated (Unverified k) = refl
-nonce-deprecated Active = refl
-nonce-deprecated Deprecated = refl
+-- a locator by its expiry keeps its address, and its status stays or is DEPRECATED
+pub expired-settles : (t : ℕ) → Settles (expireLocator t)
+expired-settles t = record { address = λ l. kept-address l (leb (l .expiry) t); status = λ l. kept-status l (leb (l .expiry) t) }
+  where
+    kept-address : (l : Locator) (late : Bool) → cond late (withStatus l Deprecated) l .address ≡ l .address
+    kept-address l true = refl
+    kept-address l false = refl
 
-module _ (l m : Locator) (apart : clashHeld (Held l) (Held m) ≡ false) where
-  addresses-differ : sameAddress (l .address) (m .address) ≡ false
-  addresses-differ = or-false-left (sameAddress (l .address) (m .address)) (sameNonce (l .status) (m .status)) apart
-
-  -- whichever of the two turns DEPRECATED
-  pub apart-deprecated : (a b : Bool) → clashHeld (Held (cond a (withStatus l Deprecated) l)) (Held (cond b (withStatus m Deprecated) m)) ≡ false
-  apart-deprecated false false = apart
-  apart-deprecated false true = rw (addresses-differ, nonce-deprecated (l .status))
-  apart-deprecated true false = rw addresses-differ
-  apart-deprecated true true = rw addresses-differ
-
-held-apart : (t : ℕ) (h k : Holding) → clashHeld h k ≡ false → clashHeld (expireHeld t h) (expireHeld t k) ≡ false
-held-apart t Empty k p = refl
-held-apart t (Held l) Empty p = refl
-held-apart t (Held l) (Held m) p = apart-deprecated l m p (leb (l .expiry) t) (leb (m .expiry) t)
-
-pub expired-apart : (t : ℕ) (x y : Slot) → clash x y ≡ false → clash (expireSlot t x) (expireSlot t y) ≡ false
-unfolding clash
-expired-apart t x y p = held-apart t (x .holding) (y .holding) p
+    kept-status : (l : Locator) (late : Bool) →
+        (cond late (withStatus l Deprecated) l .status ≡ l .status) ⊎ (isUnverified (cond late (withStatus l Deprecated) l .status) ≡ false)
+    kept-status l true = inr refl
+    kept-status l false = inl refl
 
 -- the status of an address in a slot is as it was, or was there and is DEPRECATED
 abbrev pub KeptOrDeprecated : (before after : Option Status) → Type 0

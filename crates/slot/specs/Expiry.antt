@@ -2,11 +2,10 @@
 use Prim.Native.Nat.{ℕ}
 use mathlib.Core.Bool.{cond}
 use lib.Dec.{leb}
-use Rattle.slot.specs.Found.{withStatus}
+use Rattle.slot.specs.Found.{withStatus, onHeld, onLocator}
 use Rattle.slot.specs.declared.Status.the-variants.{Deprecated}
 use Rattle.slot.specs.declared.Locator.{Locator}
 use Rattle.slot.specs.declared.Holding.{Holding}
-use Rattle.slot.specs.declared.Holding.the-variants.{Empty, Held}
 use Rattle.slot.specs.declared.Slot.{Slot}
 
 -- a locator at a time
@@ -15,9 +14,8 @@ expireLocator time l = cond (leb (l .expiry) time) (withStatus l Deprecated) l
 
 -- an empty slot stays empty
 abbrev pub expireHeld : (time : ℕ) → Holding → Holding
-expireHeld time Empty = Empty
-expireHeld time (Held l) = Held (expireLocator time l)
+expireHeld time h = onHeld (expireLocator time) h
 
 -- a slot at a time
 abbrev pub expireSlot : (time : ℕ) → Slot → Slot
-expireSlot time s = record { holding = expireHeld time (s .holding) }
+expireSlot time s = onLocator (expireLocator time) s

@@ -3,6 +3,7 @@ use Prim.Native.Nat.{ℕ}
 use mathlib.Core.Bool.{Bool, true, false, cond}
 use mathlib.Core.Option.{Option, none, some}
 use mathlib.Core.List.{List, [], _∷_}
+use lib.Dec.{eqb}
 use lib.ListN.{getD}
 use Rattle.address.specs.declared.Address.{Address}
 use Rattle.address.specs.Rules.{sameAddress}
@@ -28,6 +29,24 @@ slotOf l = record { holding = Held l }
 -- the locator with another status
 abbrev pub withStatus : Locator → Status → Locator
 withStatus l s = record { address = l .address; traffic = l .traffic; expiry = l .expiry; status = s }
+
+-- what is held, changed so; nothing stays nothing
+abbrev pub onHeld : (Locator → Locator) → Holding → Holding
+onHeld change Empty = Empty
+onHeld change (Held l) = Held (change l)
+
+-- the slot with its locator changed so; an empty slot stays empty
+abbrev pub onLocator : (Locator → Locator) → Slot → Slot
+onLocator change s = record { holding = onHeld change (s .holding) }
+
+-- the slot holds the address
+abbrev pub holdsHeld : Address → Holding → Bool
+holdsHeld x Empty = false
+holdsHeld x (Held l) = sameAddress x (l .address)
+
+-- the same, of a slot
+abbrev pub holds : Address → Slot → Bool
+holds x s = holdsHeld x (s .holding)
 
 -- the status of an address in a slot, if the slot holds it
 abbrev pub statusHeld : Address → Holding → Option Status
@@ -69,7 +88,23 @@ isUnverified (Unverified k) = true
 isUnverified Active = false
 isUnverified Deprecated = false
 
+-- the status is DEPRECATED
+abbrev pub isDeprecated : Status → Bool
+isDeprecated (Unverified k) = false
+isDeprecated Active = false
+isDeprecated Deprecated = true
+
+-- the status is UNVERIFIED and its check has this nonce: the nonce is outstanding
+abbrev pub isNonce : (nonce : ℕ) → Status → Bool
+isNonce nonce (Unverified k) = eqb nonce (k .nonce)
+isNonce nonce Active = false
+isNonce nonce Deprecated = false
+
 -- there is a status, and it passes the test
 abbrev pub foundAs : (Status → Bool) → Option Status → Bool
 foundAs test none = false
 foundAs test (some s) = test s
+
+-- the slot holds a locator whose status passes the test
+abbrev pub heldAs : (Status → Bool) → Slot → Bool
+heldAs test s = foundAs test (statusOf (s .holding))

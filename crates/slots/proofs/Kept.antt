@@ -1,4 +1,4 @@
--- What expiry does to all the slots: slots that do not clash still do not, and the status of an address stays or turns DEPRECATED. Assumes nothing.
+-- Slots that do not clash, as pairs; what expiry does to all the slots: slots that do not clash still do not, and the status of an address stays or turns DEPRECATED. Assumes nothing.
 use mathlib.Core.Path.{_≡_, refl}
 use mathlib.Core.Bool.{false}
 use mathlib.Core.Option.{Option, none, some}
@@ -12,23 +12,28 @@ use Rattle.slot.specs.declared.Status.{Status}
 use Rattle.slot.specs.declared.Slot.{Slot}
 use Rattle.slot.specs.Found.{statusHeld, orElse, statusIn}
 use Rattle.slot.specs.Clashes.{clash}
-use Rattle.slot.specs.Expiry.{expireHeld, expireSlot}
-use Rattle.slot.proofs.Expired.{expired-apart, KeptOrDeprecated, expired-status}
+use Rattle.slot.specs.Expiry.{expireLocator, expireHeld, expireSlot}
+use Rattle.slot.proofs.Settled.{Clear, settled-clear}
+use Rattle.slot.proofs.Expired.{expired-settles, KeptOrDeprecated, expired-status}
 use Rattle.slots.specs.Rules.{clashing, expireAll}
+use Rattle.slots.proofs.Each.{Pairs, none-all, all-none, pairs-map}
 
-none-clashes : (t : ℕ) (x : Slot) (ys : List Slot) → records.some (clash x) ys ≡ false → records.some (clash (expireSlot t x)) (expireAll t ys) ≡ false
-unfolding records.some
-none-clashes t x [] p = refl
-none-clashes t x (y ∷ ys) p =
-    rw (expired-apart t x y (or-false-left (clash x y) (records.some (clash x) ys) p))
-    (none-clashes t x ys (or-false-right (clash x y) (records.some (clash x) ys) p))
+-- slots that do not clash, as pairs
+pub clear-pairs : (ss : List Slot) → clashing ss ≡ false → Pairs Clear ss
+unfolding clashing Pairs
+clear-pairs [] p = tt
+clear-pairs (s ∷ ss) p =
+    (none-all (clash s) ss (or-false-left (records.some (clash s) ss) (clashing ss) p), clear-pairs ss (or-false-right (records.some (clash s) ss) (clashing ss) p))
 
-pub expired-clashing : (t : ℕ) (xs : List Slot) → clashing xs ≡ false → clashing (expireAll t xs) ≡ false
-unfolding clashing
-expired-clashing t [] p = refl
-expired-clashing t (x ∷ xs) p =
-    rw (none-clashes t x xs (or-false-left (records.some (clash x) xs) (clashing xs) p))
-    (expired-clashing t xs (or-false-right (records.some (clash x) xs) (clashing xs) p))
+pub pairs-clear : (ss : List Slot) → Pairs Clear ss → clashing ss ≡ false
+unfolding clashing Pairs
+pairs-clear [] p = refl
+pairs-clear (s ∷ ss) p = rw (all-none (clash s) ss (p .0)) (pairs-clear ss (p .1))
+
+pub expired-clashing : (t : ℕ) (ss : List Slot) → clashing ss ≡ false → clashing (expireAll t ss) ≡ false
+expired-clashing t ss p =
+    pairs-clear (expireAll t ss)
+    (pairs-map Clear Clear (expireSlot t) (settled-clear (expireLocator t) (expired-settles t)) ss (clear-pairs ss p))
 
 either-kept : (o o′ p p′ : Option Status) → KeptOrDeprecated o o′ → KeptOrDeprecated p p′ → KeptOrDeprecated (orElse o p) (orElse o′ p′)
 either-kept none o′ p p′ e h = rw e h

@@ -1,2 +1,4 @@
 pub mod Loops
+pub mod Each
+pub mod Statuses
 pub mod Kept
