@@ -1,14 +1,15 @@
 -- Worked examples, computed from the definitions: a packet for each condition of refusals 3 to 6, accepted Moves and Replies.
-use Prim.Native.Nat.{ℕ, zero, suc, _+_, _-_, _/_, _%_}
+use Prim.Native.Nat.{ℕ, zero, suc, _+_, _/_}
 use mathlib.Core.Path.{_≡_, refl}
 use mathlib.Core.Bool.{true, false}
 use mathlib.Core.List.{List, [], _∷_, _++_, map}
 use lib.ListN.{length, replicate}
 use Rattle.refusal.specs.Table.{refusal}
 use Rattle.octets.specs.Records.{records, some}
+use Rattle.octets.specs.Written.{bytesOf}
 use Rattle.address.specs.Rules.{legal}
 use Rattle.parameter.specs.Types.{espInfo, locatorSet, seq, ack, echoRequestSigned, echoResponseSigned, refusedType, wrongLength}
-use Rattle.parameter.specs.Parameters.{takes}
+use Rattle.parameter.specs.Written.{parameterBytes}
 use Rattle.frame.specs.Parameters.{falls}
 use Rattle.frame.specs.Survey.{occurs}
 use Rattle.locator.specs.Locators.{illForm}
@@ -20,26 +21,21 @@ use Rattle.packet.specs.Kinds.{isMove, isReply}
 use Rattle.packet.specs.Readings.{kindOf, readingOf}
 
 -- ---- packets
--- a parameter with its padding
-abbrev parameter : (type : ℕ) → List ℕ → List ℕ
-parameter type body =
-    (type / 256) ∷ (type % 256) ∷ (length body / 256) ∷ (length body % 256) ∷ body ++ replicate (takes (length body) - 4 - length body) 0
-
 -- a header and what follows it
 abbrev packetOf : List ℕ → List ℕ
 packetOf rest = 59 ∷ (4 + length rest / 8) ∷ 16 ∷ 0x21 ∷ replicate 36 0 ++ rest
 
 -- KEYMAT Index 7, OLD SPI 0x1001, NEW SPI 0x1002
 abbrev esp : List ℕ
-esp = parameter espInfo (0 ∷ 0 ∷ 0 ∷ 7 ∷ 0 ∷ 0 ∷ 0x10 ∷ 1 ∷ 0 ∷ 0 ∷ 0x10 ∷ 2 ∷ [])
+esp = parameterBytes espInfo (0 ∷ 0 ∷ 0 ∷ 7 ∷ 0 ∷ 0 ∷ 0x10 ∷ 1 ∷ 0 ∷ 0 ∷ 0x10 ∷ 2 ∷ [])
 
 -- Update ID 9
 abbrev id : List ℕ
-id = parameter seq (0 ∷ 0 ∷ 0 ∷ 9 ∷ [])
+id = parameterBytes seq (0 ∷ 0 ∷ 0 ∷ 9 ∷ [])
 
 -- an echo response with a nonce of 8 bytes
 abbrev echo : List ℕ
-echo = parameter echoResponseSigned (1 ∷ 2 ∷ 3 ∷ 4 ∷ 5 ∷ 6 ∷ 7 ∷ 8 ∷ [])
+echo = parameterBytes echoResponseSigned (1 ∷ 2 ∷ 3 ∷ 4 ∷ 5 ∷ 6 ∷ 7 ∷ 8 ∷ [])
 
 -- a locator of 0x20 .. 0x20 and a last byte, by its head: traffic type, locator type, length, P, lifetime
 abbrev locator : (traffic kind units p lifetime last : ℕ) → List ℕ
@@ -64,7 +60,7 @@ several (suc n) = plain n ++ several n
 
 -- a Move with the bytes of a set
 abbrev moveOf : List ℕ → List ℕ
-moveOf set = packetOf (esp ++ (parameter locatorSet set ++ id))
+moveOf set = packetOf (esp ++ (parameterBytes locatorSet set ++ id))
 
 -- what a Move says that lists so many locators
 abbrev says : ℕ → Message
@@ -90,22 +86,22 @@ table =
     ∷ ((59 ∷ 4 ∷ 16 ∷ 0x20 ∷ replicate 36 0) gives Refused (refusal 3))
     ∷ (packetOf (0 ∷ 66 ∷ 0 ∷ 5 ∷ 0 ∷ 0 ∷ 0 ∷ 0 ∷ []) gives Refused (refusal 3))
     ∷ (packetOf (id ++ esp) gives Refused (refusal 3))
-    ∷ (packetOf (parameter espInfo (replicate 8 0)) gives Refused (refusal 3))
-    ∷ (packetOf (parameter seq (replicate 8 0)) gives Refused (refusal 3))
-    ∷ (packetOf (parameter ack []) gives Refused (refusal 3))
-    ∷ (packetOf (parameter ack (replicate 6 0)) gives Refused (refusal 3))
+    ∷ (packetOf (parameterBytes espInfo (replicate 8 0)) gives Refused (refusal 3))
+    ∷ (packetOf (parameterBytes seq (replicate 8 0)) gives Refused (refusal 3))
+    ∷ (packetOf (parameterBytes ack []) gives Refused (refusal 3))
+    ∷ (packetOf (parameterBytes ack (replicate 6 0)) gives Refused (refusal 3))
     -- all parameters are judged by refusal 3 before any is by refusal 4
-    ∷ (packetOf (parameter 67 [] ++ parameter ack []) gives Refused (refusal 3))
+    ∷ (packetOf (parameterBytes 67 [] ++ parameterBytes ack []) gives Refused (refusal 3))
     -- refusal 4: an odd type not known, or 897
-    ∷ (packetOf (parameter 67 []) gives Refused (refusal 4))
-    ∷ (packetOf (parameter echoRequestSigned (replicate 8 0)) gives Refused (refusal 4))
+    ∷ (packetOf (parameterBytes 67 []) gives Refused (refusal 4))
+    ∷ (packetOf (parameterBytes echoRequestSigned (replicate 8 0)) gives Refused (refusal 4))
     -- refusal 5: no parameter, an even type alone, a second echo response, a Move's parameter in a Reply, a second ACK, a second set
     ∷ (packetOf [] gives Refused (refusal 5))
-    ∷ (packetOf (parameter 66 []) gives Refused (refusal 5))
+    ∷ (packetOf (parameterBytes 66 []) gives Refused (refusal 5))
     ∷ (packetOf (echo ++ echo) gives Refused (refusal 5))
     ∷ (packetOf (id ++ echo) gives Refused (refusal 5))
-    ∷ (packetOf (parameter ack (replicate 4 0) ++ (parameter ack (replicate 4 0) ++ echo)) gives Refused (refusal 5))
-    ∷ (packetOf (esp ++ (parameter locatorSet (plain 1) ++ (parameter locatorSet (plain 2) ++ id))) gives Refused (refusal 5))
+    ∷ (packetOf (parameterBytes ack (replicate 4 0) ++ (parameterBytes ack (replicate 4 0) ++ echo)) gives Refused (refusal 5))
+    ∷ (packetOf (esp ++ (parameterBytes locatorSet (plain 1) ++ (parameterBytes locatorSet (plain 2) ++ id))) gives Refused (refusal 5))
     -- refusal 6, by each of its conditions
     ∷ (moveOf [] gives Refused (refusal 6))
     ∷ (moveOf (several 9) gives Refused (refusal 6))
@@ -121,19 +117,19 @@ table =
     -- accepted
     ∷ (moveOf (several 8) gives says 8)
     ∷ (moveOf (ipv4 223 ++ ipv4 240) gives says 2)
-    ∷ (packetOf (esp ++ (parameter 66 [] ++ (parameter locatorSet (plain 1) ++ (id ++ parameter ack (replicate 8 0))))) gives says 1)
-    ∷ (packetOf (parameter ack (replicate 4 0) ++ echo) gives Reply (Nonce 0x0102030405060708))
+    ∷ (packetOf (esp ++ (parameterBytes 66 [] ++ (parameterBytes locatorSet (plain 1) ++ (id ++ parameterBytes ack (replicate 8 0))))) gives says 1)
+    ∷ (packetOf (parameterBytes ack (replicate 4 0) ++ echo) gives Reply (Nonce 0x0102030405060708))
     ∷ (packetOf echo gives Reply (Nonce 0x0102030405060708))
-    ∷ (packetOf (parameter echoResponseSigned (replicate 7 1)) gives Reply OtherLength)
+    ∷ (packetOf (parameterBytes echoResponseSigned (replicate 7 1)) gives Reply OtherLength)
     ∷ []
 
 -- every case agrees with the definitions
 agrees : map (λ (case : Case). readingOf (case .packet) .message) table ≡ map (λ (case : Case). case .says) table
-unfolding several records some legal refusedType wrongLength falls occurs illForm twice marks isMove isReply kindOf readingOf
+unfolding several records some legal refusedType wrongLength parameterBytes bytesOf falls occurs illForm twice marks isMove isReply kindOf readingOf
 agrees = refl
 
 -- a whole reading: a Move with an echo response and a second locator of type 1, and what it lists
-whole : readingOf (packetOf (esp ++ (parameter locatorSet (plain 1 ++ bound) ++ (id ++ echo)))) ≡ record {
+whole : readingOf (packetOf (esp ++ (parameterBytes locatorSet (plain 1 ++ bound) ++ (id ++ echo)))) ≡ record {
   message =
       Move (record { keymat = 7; old = 0x1001; new = 0x1002; id = 9; count = 2; echo = Nonce 0x0102030405060708 });
   listed =
@@ -156,5 +152,5 @@ whole : readingOf (packetOf (esp ++ (parameter locatorSet (plain 1 ++ bound) ++ 
       }
       ∷ []);
 }
-unfolding records some legal refusedType wrongLength falls occurs illForm twice marks isMove isReply kindOf readingOf
+unfolding records some legal refusedType wrongLength parameterBytes bytesOf falls occurs illForm twice marks isMove isReply kindOf readingOf
 whole = refl

@@ -1,3 +1,4 @@
 pub mod Types
 pub mod Parameters
+pub mod Written
 pub mod Examples
