@@ -1,0 +1,70 @@
+-- New checks, and refusal 10. Step 3 says that DEPRECATED "turns UNVERIFIED with a new check", and step 5 that a new address "is UNVERIFIED"; the
+-- checks go "in slot order", over both, so they are given out when steps 1 to 5 are done.
+use Prim.Native.Nat.{ℕ, _+_}
+use mathlib.Core.Bool.{Bool, false, cond, _&&_, _||_}
+use mathlib.Core.Option.{Option, none, some}
+use mathlib.Core.List.{List, [], _∷_}
+use lib.Dec.{eqb}
+use lib.ListN.{getD}
+use Rattle.octets.specs.Records as records
+use Rattle.address.specs.declared.Address.{Address}
+use Rattle.locator.specs.declared.ListedLocator.{ListedLocator}
+use Rattle.slot.specs.declared.Status.{Status}
+use Rattle.slot.specs.declared.Status.the-variants.{Unverified}
+use Rattle.slot.specs.declared.Locator.{Locator}
+use Rattle.slot.specs.declared.Holding.{Holding}
+use Rattle.slot.specs.declared.Holding.the-variants.{Empty, Held}
+use Rattle.slot.specs.declared.Slot.{Slot}
+use Rattle.slot.specs.Found.{withStatus, onLocator, holds, isDeprecated, isNonce, heldAs}
+use Rattle.readdress.specs.Steps.{isListed}
+
+-- "eight nonces of 8 bytes"
+abbrev pub nonceCount : ℕ
+nonceCount = 8
+
+-- what is held after step 5 gets a new check: a listed address that is DEPRECATED
+abbrev pub awaitsHeld : List ListedLocator → Holding → Bool
+awaitsHeld set Empty = false
+awaitsHeld set (Held l) = isDeprecated (l .status) && isListed (l .address) set
+
+-- the same, of a slot
+abbrev pub awaits : List ListedLocator → Slot → Bool
+awaits set s = awaitsHeld set (s .holding)
+
+-- the number of new checks
+unfoldable pub checkCount : List ListedLocator → List Slot → ℕ
+checkCount set [] = 0
+checkCount set (s ∷ ss) = cond (awaits set s) (1 + checkCount set ss) (checkCount set ss)
+
+-- UNVERIFIED, with the check that takes nonce k of those offered and own Update ID next + k
+abbrev pub checkedBy : (next : ℕ) → (nonces : List ℕ) → (k : ℕ) → Status
+checkedBy next nonces k = Unverified (record { nonce = getD nonces k 0; id = next + k })
+
+-- the slot with check k
+abbrev pub withCheck : (next : ℕ) → (nonces : List ℕ) → (k : ℕ) → Slot → Slot
+withCheck next nonces k s = onLocator (λ (l : Locator). withStatus l (checkedBy next nonces k)) s
+
+-- from check k on: "New checks, in slot order, take them in order and own Update IDs in order."
+unfoldable pub checked : List ListedLocator → (next : ℕ) → (nonces : List ℕ) → (k : ℕ) → List Slot → List Slot
+checked set next nonces k [] = []
+checked set next nonces k (s ∷ ss) =
+    cond (awaits set s) (withCheck next nonces k s ∷ checked set next nonces (k + 1) ss) (s ∷ checked set next nonces k ss)
+
+-- the nonce that the check for an address takes, from check k on; none where the address gets no check
+unfoldable pub nonceTaken : Address → List ListedLocator → (nonces : List ℕ) → (k : ℕ) → List Slot → Option ℕ
+nonceTaken x set nonces k [] = none
+nonceTaken x set nonces k (s ∷ ss) =
+    cond (holds x s) (cond (awaits set s) (some (getD nonces k 0)) none) (nonceTaken x set nonces (cond (awaits set s) (k + 1) k) ss)
+
+-- "distinct from each other": one of them stands among those after it
+unfoldable pub twice : List ℕ → Bool
+twice [] = false
+twice (n ∷ ns) = records.some (eqb n) ns || twice ns
+
+-- the nonce is outstanding
+abbrev pub isOutstanding : List Slot → (nonce : ℕ) → Bool
+isOutstanding ss nonce = records.some (heldAs (isNonce nonce)) ss
+
+-- refusal 10: "the 8 offered nonces not distinct from each other and from those outstanding before"
+abbrev pub refusal10 : (nonces : List ℕ) → List Slot → Bool
+refusal10 nonces ss = twice nonces || records.some (isOutstanding ss) nonces

@@ -1,0 +1,4 @@
+pub mod Echoes
+pub mod Steps
+pub mod Checks
+pub mod Moves
