@@ -1,42 +1,54 @@
--- What each call keeps and changes: refusal 0, the credit, and the status of one address. Assumes nothing.
-use mathlib.Core.Path.{_≡_, refl, sym}
-use mathlib.Core.Bool.{true, false}
+-- What each call keeps and does, one clause for each call. Assumes nothing.
+use mathlib.Core.Path.{_≡_, refl, sym, ap, subst}
+use mathlib.Core.Bool.{Bool, true, false}
 use mathlib.Core.Option.{Option, none, some}
 use mathlib.Core.List.{List, [], _∷_}
-use Prim.Native.Nat.{ℕ, zero, suc, _-_}
-use lib.ListN.{replicate}
-use native.Mathlib.Omega.{arith}
-use Rattle.boolean.proofs.Laws.{cond-all}
+use Prim.Native.Nat.{ℕ, _-_}
+use lib.ListN.{length}
+use Rattle.boolean.proofs.Laws.{apart, cond-all}
 use Rattle.refusal.specs.declared.Refusal.{Refusal}
 use Rattle.refusal.specs.Table.{refusal}
 use Rattle.address.specs.declared.Address.{Address}
+use Rattle.packet.specs.declared.Message.{Message}
+use Rattle.packet.specs.declared.Message.the-variants.{Refused, Move, Reply}
+use Rattle.packet.specs.Readings.{readingOf}
+use Rattle.locator.specs.declared.ListedLocator.{ListedLocator}
 use Rattle.slot.specs.declared.Status.{Status}
 use Rattle.slot.specs.declared.Status.the-variants.{Unverified, Active, Deprecated}
 use Rattle.slot.specs.Found.{statusIn, statusAt, isActive, isUnverified, foundAs}
-use Rattle.slot.proofs.Expired.{KeptOrDeprecated, kept}
 use Rattle.slots.proofs.Kept.{expired-statuses}
 use Rattle.path.specs.Choices.{pathOf}
 use Rattle.path.specs.declared.Path.{Path}
 use Rattle.path.specs.declared.Path.the-variants.{ToActive, ToUnverified, NoCarrier}
 use Rattle.path.proofs.Picked.{picked-active, picked-unverified}
 use Rattle.credit.specs.Credit.{refusal13, covers, credited}
-use Rattle.credit.specs.Clock.{refusal12, ageings, agedOnce, agedBy}
+use Rattle.credit.specs.Clock.{refusal12, ageings}
+use Rattle.credit.proofs.Covered.{covered-below}
 use Rattle.association.specs.Form.{refusal0, withCredit, accepted, refused}
-use Rattle.association.specs.Start.{refusal16, noAssociation, started}
+use Rattle.association.specs.Start.{noAssociation}
 use Rattle.association.specs.declared.Association.{Association}
 use Rattle.association.specs.declared.Answer.{Answer}
 use Rattle.association.proofs.Sound.{Keeps}
-use Rattle.association.proofs.Started.{started-sound, none-refused}
+use Rattle.association.proofs.Started.{none-refused}
 use Rattle.payload.specs.Calls.{arrivalOf, sendOf, sendTo, granted, denied}
 use Rattle.payload.specs.declared.SendAnswer.{SendAnswer}
 use Rattle.payload.proofs.Kept.{arrival-keeps, send-keeps}
 use Rattle.clock.specs.Ticks.{ticked, tickOf}
 use Rattle.clock.proofs.Kept.{tick-keeps}
-use Rattle.history.specs.Calls.{Call, arrival, send, tick, Answered, refusedBy, ofOutcome, ofSend, answers, leaves, isAccepted, after}
-use Rattle.history.specs.Ledger.{ageing, held, entriesOf}
+use Rattle.readdress.specs.Checks.{nonceCount}
+use Rattle.update.specs.Messages.{Handled, afterMove, handleMessage, handled}
+use Rattle.update.proofs.Cases.{reply-ends, move-ends, message-ends}
+use Rattle.update.proofs.Kept.{message-keeps}
+use Rattle.history.specs.Calls.{Call, message, arrival, send, tick, Answered, refusedBy, ofOutcome, ofSend, ofMessage, answers, returned, isAccepted, after}
+use Rattle.history.specs.Ledger.{held, entriesOf, lastOf}
+use Rattle.history.specs.Words.{isAuthentic, echoed, retires, taken}
+use Rattle.history.proofs.Ledgers.{Funded, ageings-held, ageings-funded}
+use Rattle.history.proofs.Traces.{isHeeded, Traced, traced-unheeded, traced-still, traced-expired, traced-message}
 
+-- ---- refusal 0
 -- "from a start on, no call yields such an association"
-pub keeps : (c : Call) → Keeps (λ a. leaves a c)
+pub keeps : (c : Call) → Keeps (λ a. returned a c)
+keeps (message packet authentic nonces eight buffer) = message-keeps packet authentic nonces eight buffer
 keeps (arrival size) = arrival-keeps size
 keeps (send size) = send-keeps size
 keeps (tick time) = tick-keeps time
@@ -44,16 +56,12 @@ keeps (tick time) = tick-keeps time
 pub after-keeps : (cs : List Call) → Keeps (λ a. after a cs)
 unfolding after
 after-keeps [] a p = p
-after-keeps (c ∷ cs) a p = after-keeps cs (leaves a c) (keeps c a p)
-
-pub never-refused : (time outbound inbound : ℕ) (address : Address) (lifetime : ℕ) → refusal16 time outbound inbound address lifetime ≡ false → (cs : List Call) →
-    refusal0 (after (started time outbound inbound address lifetime) cs) ≡ false
-never-refused time outbound inbound address lifetime p cs =
-    after-keeps cs (started time outbound inbound address lifetime) (started-sound time outbound inbound address lifetime p)
+after-keeps (c ∷ cs) a p = after-keeps cs (returned a c) (keeps c a p)
 
 -- refusal 0 "comes first in every call but start"
 pub bad-refused : (a : Association) → refusal0 a ≡ true → (c : Call) → answers a c ≡ refusedBy (refusal 0)
-unfolding arrivalOf sendOf tickOf
+unfolding handled arrivalOf sendOf tickOf
+bad-refused a p (message packet authentic nonces eight buffer) = rw p
 bad-refused a p (arrival size) = rw p
 bad-refused a p (send size) = rw p
 bad-refused a p (tick time) = rw p
@@ -62,51 +70,74 @@ bad-refused a p (tick time) = rw p
 pub none-refuses : (c : Call) → answers noAssociation c ≡ refusedBy (refusal 0)
 none-refuses = bad-refused noAssociation none-refused
 
--- what a call may do to the status of an address: an arrival and a send change none, and a tick only turns it to DEPRECATED
-abbrev pub Turns : Call → (found left : Option Status) → Type 0
-Turns (arrival size) found left = left ≡ found
-Turns (send size) found left = left ≡ found
-Turns (tick time) found left = KeptOrDeprecated found left
-
--- what a call did that was answered r and left this association
+-- ---- what a call did that was answered r and left this association
 pub record Did (a : Association) (c : Call) (r : Answered) (left : Association) : Type 0 where
   -- "A refused call stands in it and changes nothing."
   pub refused-same : isAccepted r ≡ false → left ≡ a
+  -- the time of the last ageing by the history is the association's
+  pub last : lastOf (a .aged) c r ≡ left .aged
   -- the credit is what the call's entries make of it, and nothing else moves it
   pub credit : held (a .credit) (entriesOf (a .aged) a c r) ≡ left .credit
-  pub status : (x : Address) → Turns c (statusIn x (a .slots)) (statusIn x (left .slots))
+  -- a grant to UNVERIFIED is below the credit
+  pub funded : Funded (a .credit) (entriesOf (a .aged) a c r)
+  -- an accepted message is authentic; no other call echoes anything
+  pub authentic : (n : ℕ) → isAccepted r ≡ true → echoed c ≡ some n → isAuthentic c ≡ true
+  pub traced : (x : Address) → Traced (statusIn x (a .slots)) (statusIn x (left .slots)) (taken x a c r) (echoed c) (retires x a c) (isHeeded r)
+
+-- ---- a refusal
+refused-entries : (last : ℕ) (a : Association) (c : Call) (r : Refusal) → entriesOf last a c (refusedBy r) ≡ []
+refused-entries last a (message packet authentic nonces eight buffer) r = refl
+refused-entries last a (arrival size) r = refl
+refused-entries last a (send size) r = refl
+refused-entries last a (tick time) r = refl
+
+refused-last : (last : ℕ) (c : Call) (r : Refusal) → lastOf last c (refusedBy r) ≡ last
+refused-last last (message packet authentic nonces eight buffer) r = refl
+refused-last last (arrival size) r = refl
+refused-last last (send size) r = refl
+refused-last last (tick time) r = refl
+
+refused-taken : (x : Address) (a : Association) (c : Call) (r : Refusal) → taken x a c (refusedBy r) ≡ none
+refused-taken x a (message packet authentic nonces eight buffer) r = refl
+refused-taken x a (arrival size) r = refl
+refused-taken x a (send size) r = refl
+refused-taken x a (tick time) r = refl
 
 refused-did : (a : Association) (c : Call) (r : Refusal) → Did a c (refusedBy r) a
-unfolding held
-refused-did a (arrival size) r = record { refused-same = λ e. refl; credit = refl; status = λ x. refl }
-refused-did a (send size) r = record { refused-same = λ e. refl; credit = refl; status = λ x. refl }
-refused-did a (tick time) r = record { refused-same = λ e. refl; credit = refl; status = λ x. kept (statusIn x (a .slots)) }
+unfolding held Funded
+refused-did a c r = record {
+  refused-same = λ e. refl;
+  last = refused-last (a .aged) c r;
+  credit = ap (held (a .credit)) (refused-entries (a .aged) a c r);
+  funded = subst (Funded (a .credit)) (sym (refused-entries (a .aged) a c r)) tt;
+  authentic = λ n e. apart (sym e);
+  traced =
+      λ x.
+      subst (λ (o : Option ℕ). Traced (statusIn x (a .slots)) (statusIn x (a .slots)) o (echoed c) (retires x a c) false) (sym (refused-taken x a c r))
+      (traced-unheeded (statusIn x (a .slots)) (echoed c) (retires x a c));
+}
 
--- an accepted call is not refused
-not-refused : {A : Type 0} → true ≡ false → A
-not-refused e = let z : _≡_ {A = ℕ} 0 1 = cc in absurd (omega arith)
-
+-- ---- an arrival
 -- what a call did, by its answer
 abbrev DidBy : Association → Call → Answer → Type 0
 DidBy a c r = Did a c (ofOutcome (r .outcome)) (r .association)
 
-abbrev DidSend : Association → (size : ℕ) → SendAnswer → Type 0
-DidSend a size r = Did a (send size) (ofSend (r .outcome)) (r .association)
-
 arrival-did : (a : Association) (size : ℕ) → DidBy a (arrival size) (arrivalOf a size)
-unfolding arrivalOf held
+unfolding arrivalOf held Funded
 arrival-did a size =
     cond-all (DidBy a (arrival size)) (refusal0 a) (refused 0 a) _ (λ e. refused-did a (arrival size) (refusal 0))
     (λ e. cond-all (DidBy a (arrival size)) (refusal13 size) (refused 13 a) (accepted (withCredit a (credited (a .credit) size)))
     (λ e. refused-did a (arrival size) (refusal 13))
-    (λ e. record { refused-same = λ e. not-refused e; credit = refl; status = λ x. refl }))
+    (λ e. record {
+      refused-same = λ e. apart e;
+      last = refl;
+      credit = refl;
+      funded = (tt, tt);
+      authentic = λ n e f. apart (let z : true ≡ false = cc in z);
+      traced = λ x. traced-still (statusIn x (a .slots)) true;
+    }))
 
--- the credit after so many ageings
-ageings-held : (k c : ℕ) → held c (replicate k ageing) ≡ agedBy k c
-unfolding held agedBy
-ageings-held zero c = refl
-ageings-held (suc k) c = ageings-held k (agedOnce c)
-
+-- ---- a tick
 tick-did : (a : Association) (time : ℕ) → DidBy a (tick time) (tickOf a time)
 unfolding tickOf
 tick-did a time =
@@ -114,10 +145,17 @@ tick-did a time =
     (λ e. cond-all (DidBy a (tick time)) (refusal12 (a .time) time) (refused 12 a) (accepted (ticked a time))
     (λ e. refused-did a (tick time) (refusal 12))
     (λ e. record {
-      refused-same = λ e. not-refused e;
+      refused-same = λ e. apart e;
+      last = refl;
       credit = ageings-held (ageings (a .aged) time) (a .credit);
-      status = λ x. expired-statuses x time (a .slots);
+      funded = ageings-funded (ageings (a .aged) time) (a .credit);
+      authentic = λ n e f. apart (let z : true ≡ false = cc in z);
+      traced = λ x. traced-expired (statusIn x (a .slots)) (statusIn x (ticked a time .slots)) true (expired-statuses x time (a .slots));
     }))
+
+-- ---- a send
+abbrev DidSend : Association → (size : ℕ) → SendAnswer → Type 0
+DidSend a size r = Did a (send size) (ofSend (r .outcome)) (r .association)
 
 -- ACTIVE is not UNVERIFIED
 active-only : (o : Option Status) → foundAs isActive o ≡ true → foundAs isUnverified o ≡ false
@@ -127,17 +165,30 @@ active-only (some Active) e = refl
 active-only (some Deprecated) e = refl
 
 to-did : (a : Association) (size : ℕ) (k : Path) → pathOf (a .preferred) (a .slots) ≡ k → DidSend a size (sendTo a size k)
-unfolding held
+unfolding held Funded
 to-did a size NoCarrier e = refused-did a (send size) (refusal 14)
 to-did a size (ToActive n) e =
+    let active = active-only (statusAt n (a .slots)) (picked-active (a .preferred) (a .slots) n e) in
     record {
       refused-same = λ e. refl;
-      credit = rw (active-only (statusAt n (a .slots)) (picked-active (a .preferred) (a .slots) n e));
-      status = λ x. refl;
+      last = refl;
+      credit = rw active;
+      funded = rw active tt;
+      authentic = λ n e f. apart (let z : true ≡ false = cc in z);
+      traced = λ x. traced-still (statusIn x (a .slots)) true;
     }
 to-did a size (ToUnverified n) e =
     cond-all (DidSend a size) (covers (a .credit) size) (granted n (withCredit a (a .credit - size))) (denied 15 a)
-    (λ q. record { refused-same = λ e. not-refused e; credit = rw (picked-unverified (a .preferred) (a .slots) n e); status = λ x. refl })
+    (λ q.
+    let unverified = picked-unverified (a .preferred) (a .slots) n e in
+    record {
+      refused-same = λ e. apart e;
+      last = refl;
+      credit = rw unverified;
+      funded = rw unverified (covered-below (a .credit) size q, tt);
+      authentic = λ n e f. apart (let z : true ≡ false = cc in z);
+      traced = λ x. traced-still (statusIn x (a .slots)) true;
+    })
     (λ q. refused-did a (send size) (refusal 15))
 
 send-did : (a : Association) (size : ℕ) → DidSend a size (sendOf a size)
@@ -148,7 +199,43 @@ send-did a size =
     (λ e. refused-did a (send size) (refusal 13))
     (λ e. to-did a size (pathOf (a .preferred) (a .slots)) refl))
 
-pub did : (a : Association) (c : Call) → Did a c (answers a c) (leaves a c)
+-- ---- a message
+-- it moves neither the clock nor the credit, and changes nothing where it is refused
+record Still (a : Association) (h : Handled) : Type 0 where
+  refused-same : isAccepted (ofMessage (h .outcome)) ≡ false → h .left ≡ a
+  last : a .aged ≡ h .left .aged
+  credit : a .credit ≡ h .left .credit
+
+message-still : (a : Association) (g : Message) (listed : List ListedLocator) (nonces : List ℕ) → Still a (handleMessage a g listed nonces)
+unfolding afterMove
+message-still a (Refused why) listed nonces = record { refused-same = λ e. refl; last = refl; credit = refl }
+message-still a (Reply e) listed nonces =
+    reply-ends (Still a) a (λ n. record { refused-same = λ e. refl; last = refl; credit = refl }) e
+    (record { refused-same = λ e. apart e; last = refl; credit = refl })
+message-still a (Move m) listed nonces =
+    move-ends (Still a) a (λ n. record { refused-same = λ e. refl; last = refl; credit = refl }) m _ nonces
+    (record { refused-same = λ e. refl; last = refl; credit = refl })
+    (λ q r. record { refused-same = λ e. apart e; last = refl; credit = refl })
+
+message-did : (a : Association) (packet : List ℕ) (authentic : Bool) (nonces : List ℕ) (eight : length nonces ≡ nonceCount) (buffer : List ℕ) →
+    Did a (message packet authentic nonces eight buffer) (answers a (message packet authentic nonces eight buffer)) (returned a (message packet authentic nonces eight buffer))
+unfolding held Funded
+message-did a packet authentic nonces eight buffer =
+    message-ends (λ h. Did a (message packet authentic nonces eight buffer) (ofMessage (h .outcome)) (h .left)) a
+    (λ n. refused-did a (message packet authentic nonces eight buffer) (refusal n)) packet authentic nonces (length buffer)
+    (λ p r q.
+    let still = message-still a (readingOf packet .message) (readingOf packet .listed) nonces in
+    record {
+      refused-same = still .refused-same;
+      last = still .last;
+      credit = still .credit;
+      funded = tt;
+      authentic = λ n e f. q;
+      traced = λ x. traced-message x a (readingOf packet .message) (readingOf packet .listed) nonces;
+    })
+
+pub did : (a : Association) (c : Call) → Did a c (answers a c) (returned a c)
+did a (message packet authentic nonces eight buffer) = message-did a packet authentic nonces eight buffer
 did a (arrival size) = arrival-did a size
 did a (send size) = send-did a size
 did a (tick time) = tick-did a time

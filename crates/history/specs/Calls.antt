@@ -1,7 +1,9 @@
--- The calls that may follow a start, what each answers and what it leaves.
+-- The calls that may follow a start, what each answers and returns, and a sequence of them.
 use Prim.Native.Nat.{ℕ}
+use mathlib.Core.Path.{_≡_}
 use mathlib.Core.Bool.{Bool, true, false}
 use mathlib.Core.List.{List, [], _∷_}
+use lib.ListN.{length}
 use Rattle.refusal.specs.declared.Refusal.{Refusal}
 use Rattle.association.specs.declared.Association.{Association}
 use Rattle.association.specs.declared.Outcome.{Outcome}
@@ -10,17 +12,23 @@ use Rattle.payload.specs.declared.SendOutcome.{SendOutcome}
 use Rattle.payload.specs.declared.SendOutcome.the-variants.{Granted, Denied}
 use Rattle.payload.specs.Calls.{arrivalOf, sendOf}
 use Rattle.clock.specs.Ticks.{tickOf}
+use Rattle.readdress.specs.Checks.{nonceCount}
+use Rattle.update.specs.declared.MessageOutcome.{MessageOutcome}
+use Rattle.update.specs.declared.MessageOutcome.the-variants.{Moved, Replied, Repeated, Declined}
+use Rattle.update.specs.Messages.{messageOf}
 
--- a call with its inputs
+-- a call with its inputs. A message brings the packet's bytes, the mark, "eight nonces", and a lent reply buffer of any length
 pub data Call : Type 0 where
+  message : (packet : List ℕ) (authentic : Bool) (nonces : List ℕ) (eight : length nonces ≡ nonceCount) (buffer : List ℕ) → Call
   arrival : (size : ℕ) → Call
   send : (size : ℕ) → Call
   tick : (time : ℕ) → Call
 
--- what a call answers: a refusal; that it is accepted; or, for a send, the slot that it is granted
+-- what a call answers: a refusal; that it is accepted; for a message, that it is a repeat; for a send, the slot that it is granted
 pub data Answered : Type 0 where
   refusedBy : Refusal → Answered
   done : Answered
+  repeated : Answered
   grantedTo : (slot : ℕ) → Answered
 
 -- what the answer to an arrival or a tick says
@@ -33,25 +41,58 @@ abbrev pub ofSend : SendOutcome → Answered
 ofSend (Granted n) = grantedTo n
 ofSend (Denied r) = refusedBy r
 
+-- what the answer to a message says
+abbrev pub ofMessage : MessageOutcome → Answered
+ofMessage Moved = done
+ofMessage Replied = done
+ofMessage Repeated = repeated
+ofMessage (Declined r) = refusedBy r
+
 -- the answer to the call
 abbrev pub answers : Association → Call → Answered
+answers a (message packet authentic nonces eight buffer) = ofMessage (messageOf a packet authentic nonces buffer .outcome)
 answers a (arrival size) = ofOutcome (arrivalOf a size .outcome)
 answers a (send size) = ofSend (sendOf a size .outcome)
 answers a (tick time) = ofOutcome (tickOf a time .outcome)
 
 -- "the one returned": the association after the call
-abbrev pub leaves : Association → Call → Association
-leaves a (arrival size) = arrivalOf a size .association
-leaves a (send size) = sendOf a size .association
-leaves a (tick time) = tickOf a time .association
+abbrev pub returned : Association → Call → Association
+returned a (message packet authentic nonces eight buffer) = messageOf a packet authentic nonces buffer .association
+returned a (arrival size) = arrivalOf a size .association
+returned a (send size) = sendOf a size .association
+returned a (tick time) = tickOf a time .association
 
--- "Accepted: answered without a refusal number"
+-- "Accepted: answered without a refusal number". "A repeat is answered Repeated."
 abbrev pub isAccepted : Answered → Bool
 isAccepted (refusedBy r) = false
 isAccepted done = true
+isAccepted repeated = true
 isAccepted (grantedTo n) = true
 
--- the association after a sequence of calls, each handed what the one before it left
+-- the call is answered Repeated
+abbrev pub isRepeat : Answered → Bool
+isRepeat (refusedBy r) = false
+isRepeat done = false
+isRepeat repeated = true
+isRepeat (grantedTo n) = false
+
+-- a call in its place in a sequence: "the association handed in", the call, its answer, and the association "returned"
+pub record Step : Type 0 where
+  pub found : Association
+  pub call : Call
+  pub answered : Answered
+  pub left : Association
+
+-- the call, handed this association
+abbrev pub stepOf : Association → Call → Step
+stepOf a c = record { found = a; call = c; answered = answers a c; left = returned a c }
+
+-- the history of a sequence of calls: each is handed what the one before it returned. "A refused call stands in it and changes nothing."
+unfoldable pub history : Association → List Call → List Step
+history a [] = []
+history a (c ∷ cs) = stepOf a c ∷ history (returned a c) cs
+
+-- the association after them
 unfoldable pub after : Association → List Call → Association
 after a [] = a
-after a (c ∷ cs) = after (leaves a c) cs
+after a (c ∷ cs) = after (returned a c) cs

@@ -1,2 +1,4 @@
 pub mod Calls
 pub mod Ledger
+pub mod Words
+pub mod Demand

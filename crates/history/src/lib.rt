@@ -1,1 +1,2 @@
-// Sequences of calls: definitions and laws over the calls of the crates below, and no code. Depends on clock, payload and what they depend on.
+// Sequences of calls: definitions and laws over the calls of the crates below, the theorem over every sequence, and no code. Depends on update,
+// clock, payload and what they depend on.
