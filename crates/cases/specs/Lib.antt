@@ -1,0 +1,7 @@
+pub mod Packets
+pub mod Held
+pub mod Unfolded
+pub mod Tables
+pub mod Starred
+pub mod Refusals
+pub mod Story
