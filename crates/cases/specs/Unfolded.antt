@@ -22,7 +22,7 @@ use Rattle.payload.specs.Calls.{arrivalOf, sendOf}
 use Rattle.clock.specs.Ticks.{tickOf}
 use Rattle.readdress.specs.Echoes.{verifyAll}
 use Rattle.readdress.specs.Steps.{rebind, entryFor, renewAll, retireAll, placeAll, markedSlot}
-use Rattle.readdress.specs.Checks.{checkCount, checked, nonceTaken, twice}
+use Rattle.readdress.specs.Checks.{checkCount, checked, checkFor, twice}
 use Rattle.readdress.specs.Moves.{settled, placed}
 use Rattle.reply.specs.Replies.{checksBytes, moveBytes}
 use Rattle.update.specs.Messages.{afterMove, handleReply, handleMove, handled}
@@ -33,5 +33,5 @@ unfoldable pub calls : ℕ
 unfolding
     records some bytesOf legal refusedType wrongLength parameterBytes falls occurs illForm sets.twice sets.marks isMove isReply kindOf readingOf
     statusIn clash clashing lowest pathOf agedBy refusal0 startOf arrivalOf sendOf tickOf verifyAll rebind entryFor renewAll retireAll placeAll
-    markedSlot checkCount checked nonceTaken twice settled placed checksBytes moveBytes afterMove handleReply handleMove handled joined
+    markedSlot checkCount checked checkFor twice settled placed checksBytes moveBytes afterMove handleReply handleMove handled joined
 calls = 0

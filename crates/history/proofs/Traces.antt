@@ -103,14 +103,14 @@ traced-reply x a e = record {
 }
 
 traced-move : (x : Address) (a : Association) (m : MoveFields) (set : List ListedLocator) (nonces : List ℕ) →
-    Traced (statusIn x (a .slots)) (statusIn x (moved a m set nonces .left .slots)) (nonceTaken x set nonces 0 (placement a m set .slots)) (nonceOf (m .echo))
+    Traced (statusIn x (a .slots)) (statusIn x (moved a m set nonces .left .slots)) (nonceTaken x set nonces (placement a m set .slots)) (nonceOf (m .echo))
     (differs a m || not (isListed x set)) true
 unfolding afterMove
 traced-move x a m set nonces =
     let d = differs a m in
     record {
       nonce =
-          either-nonce (statusIn x (moved a m set nonces .left .slots)) (nonceTaken x set nonces 0 (placement a m set .slots)) (nonceHeld (statusIn x (a .slots)))
+          either-nonce (statusIn x (moved a m set nonces .left .slots)) (nonceTaken x set nonces (placement a m set .slots)) (nonceHeld (statusIn x (a .slots)))
           (nonceHeld (statusIn x (placement a m set .slots)))
           (move-nonce x (a .time) d (m .echo) set (a .preferred) (a .next) nonces (a .slots))
           (move-keeps-nonce x (a .time) d (m .echo) set (a .preferred) (a .next) nonces (a .slots));

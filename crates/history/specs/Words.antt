@@ -87,7 +87,7 @@ retires x found (tick time) = false
 abbrev pub takenBy : Address → (found : Association) → Message → (listed : List ListedLocator) → (nonces : List ℕ) → Option ℕ
 takenBy x found (Refused r) listed nonces = none
 takenBy x found (Move m) listed nonces =
-    nonceTaken x (take (m .count) listed) nonces 0 (placement found m (take (m .count) listed) .slots)
+    nonceTaken x (take (m .count) listed) nonces (placement found m (take (m .count) listed) .slots)
 takenBy x found (Reply e) listed nonces = none
 
 -- "by the .. accepted Move that gave it a check": a repeat gives none

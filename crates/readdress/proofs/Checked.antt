@@ -1,14 +1,14 @@
 -- The new checks: what they make of the status of an address; their nonces are apart from each other and from those that are outstanding. Assumes nothing.
-use mathlib.Core.Path.{_≡_, refl, _∙_, sym}
-use mathlib.Core.Bool.{Bool, true, false, cond, _&&_, _||_}
-use mathlib.Core.Option.{Option, none, some}
+use mathlib.Core.Path.{_≡_, refl, _∙_, sym, ap}
+use mathlib.Core.Bool.{Bool, true, false, cond, _&&_}
+use mathlib.Core.Option.{Option, none, some, Option·map}
 use mathlib.Core.List.{List, [], _∷_}
 use Prim.Native.Nat.{ℕ, _+_, _≤_, _<_, zero, suc}
 use lib.Dec.{eqb}
 use lib.ListN.{getD, length}
 use native.Mathlib.Omega.{arith}
 use borrow.Author.Tests.{eqb-true, eq-eqb}
-use Rattle.boolean.proofs.Laws.{and-true-left, or-false-left, or-false-right, apart}
+use Rattle.boolean.proofs.Laws.{and-true-left, and-true-right, or-false-left, or-false-right, apart}
 use Rattle.octets.specs.Records as records
 use Rattle.address.proofs.Equal.{same-equal}
 use Rattle.address.specs.Rules.{sameAddress}
@@ -16,7 +16,7 @@ use Rattle.address.specs.declared.Address.{Address}
 use Rattle.locator.specs.declared.ListedLocator.{ListedLocator}
 use Rattle.slot.proofs.Settled.{Clear, Lacks}
 use Rattle.slot.specs.Clashes.{sameNonce, clashHeld, clash}
-use Rattle.slot.specs.Found.{isDeprecated, holdsHeld, holds, statusHeld, orElse, statusIn, isActive, foundAs, isNonce, heldAs, statusOf}
+use Rattle.slot.specs.Found.{isDeprecated, holdsHeld, holds, statusHeld, orElse, statusIn, foundAs, isNonce, heldAs, statusOf}
 use Rattle.slot.specs.declared.Holding.{Holding}
 use Rattle.slot.specs.declared.Holding.the-variants.{Empty, Held}
 use Rattle.slot.specs.declared.Locator.{Locator}
@@ -24,78 +24,109 @@ use Rattle.slot.specs.declared.Slot.{Slot}
 use Rattle.slot.specs.declared.Status.{Status}
 use Rattle.slot.specs.declared.Status.the-variants.{Unverified, Active, Deprecated}
 use Rattle.slots.proofs.Each.{All, Pairs, none-all, all-both}
-use Rattle.readdress.specs.Checks.{awaits, checkCount, checkedBy, withCheck, checked, twice, isOutstanding, refusal10, awaitsHeld, nonceTaken}
-use Rattle.readdress.specs.Steps.{isListed, isHeld}
-use Rattle.readdress.proofs.Live.{isDead, nonceHeld}
+use Rattle.readdress.specs.Checks.{awaits, checkCount, checkedBy, withCheck, checked, twice, isOutstanding, refusal10, awaitsHeld, checkFor}
+use Rattle.readdress.specs.Steps.{isListed}
+use Rattle.readdress.proofs.Live.{live}
 
 -- ---- the status of an address
--- a new check is UNVERIFIED, and was not ACTIVE
-module _ (x : Address) (listed : List ListedLocator) (offer : ℕ) (nonces : List ℕ) where
-  held-active : (k : ℕ) (h : Holding) (o o′ : Option Status) (b : Bool) → awaitsHeld listed h ≡ b → foundAs isActive o′ ≡ foundAs isActive o →
-      foundAs isActive (orElse (statusHeld x (cond b (withCheck offer nonces k (record { holding = h })) (record { holding = h }) .holding)) o′)
-      ≡ foundAs isActive (orElse (statusHeld x h) o)
-  held-active k Empty o o′ true p q = q
-  held-active k Empty o o′ false p q = q
-  held-active k (Held l) o o′ true p q = go (sameAddress x (l .address)) (l .status) (and-true-left (isDeprecated (l .status)) (isListed (l .address) listed) p)
+-- it is UNVERIFIED with the check that the address gets, or else as it was
+module _ (x : Address) (listed : List ListedLocator) (next : ℕ) (nonces : List ℕ) where
+  held-status : (k : ℕ) (h : Holding) (b : Bool) (o o′ : Option Status) (t : Option ℕ) → o′ ≡ orElse (Option·map (checkedBy next nonces) t) o →
+      orElse (statusHeld x (cond b (withCheck next nonces k (record { holding = h })) (record { holding = h }) .holding)) o′
+      ≡ orElse (Option·map (checkedBy next nonces) (cond (holdsHeld x h) (cond b (some k) none) t)) (orElse (statusHeld x h) o)
+  held-status k Empty true o o′ t q = q
+  held-status k Empty false o o′ t q = q
+  held-status k (Held l) true o o′ t q = go (sameAddress x (l .address))
     where
-      go : (c : Bool) (s : Status) → isDeprecated s ≡ true →
-          foundAs isActive (orElse (cond c (some (checkedBy offer nonces k)) none) o′) ≡ foundAs isActive (orElse (cond c (some s) none) o)
-      go true (Unverified j) d = refl
-      go true Active d = d
-      go true Deprecated d = refl
-      go false s d = q
-  held-active k (Held l) o o′ false p q = go (sameAddress x (l .address))
+      go : (c : Bool) → orElse (cond c (some (checkedBy next nonces k)) none) o′
+          ≡ orElse (Option·map (checkedBy next nonces) (cond c (some k) t)) (orElse (cond c (some (l .status)) none) o)
+      go true = refl
+      go false = q
+  held-status k (Held l) false o o′ t q = go (sameAddress x (l .address))
     where
-      go : (c : Bool) → foundAs isActive (orElse (cond c (some (l .status)) none) o′) ≡ foundAs isActive (orElse (cond c (some (l .status)) none) o)
+      go : (c : Bool) → orElse (cond c (some (l .status)) none) o′
+          ≡ orElse (Option·map (checkedBy next nonces) (cond c none t)) (orElse (cond c (some (l .status)) none) o)
       go true = refl
       go false = q
 
-  pub checked-active : (k : ℕ) (ss : List Slot) → foundAs isActive (statusIn x (checked listed offer nonces k ss)) ≡ foundAs isActive (statusIn x ss)
-  unfolding checked statusIn
-  checked-active k [] = refl
-  checked-active k (s ∷ ss) = go (awaits listed s) refl (checked-active k ss) (checked-active (k + 1) ss)
+  pub checked-status : (k : ℕ) (ss : List Slot) →
+      statusIn x (checked listed next nonces k ss) ≡ orElse (Option·map (checkedBy next nonces) (checkFor x listed k ss)) (statusIn x ss)
+  unfolding checked statusIn checkFor
+  checked-status k [] = refl
+  checked-status k (s ∷ ss) = go (awaits listed s) (checked-status k ss) (checked-status (k + 1) ss)
     where
-      go : (b : Bool) → awaits listed s ≡ b → foundAs isActive (statusIn x (checked listed offer nonces k ss)) ≡ foundAs isActive (statusIn x ss) →
-          foundAs isActive (statusIn x (checked listed offer nonces (k + 1) ss)) ≡ foundAs isActive (statusIn x ss) →
-          foundAs isActive (statusIn x (cond b (withCheck offer nonces k s ∷ checked listed offer nonces (k + 1) ss) (s ∷ checked listed offer nonces k ss)))
-          ≡ foundAs isActive (orElse (statusHeld x (s .holding)) (statusIn x ss))
-      go true p same more = held-active k (s .holding) (statusIn x ss) (statusIn x (checked listed offer nonces (k + 1) ss)) true p more
-      go false p same more = held-active k (s .holding) (statusIn x ss) (statusIn x (checked listed offer nonces k ss)) false p same
+      go : (b : Bool) → statusIn x (checked listed next nonces k ss) ≡ orElse (Option·map (checkedBy next nonces) (checkFor x listed k ss)) (statusIn x ss) →
+          statusIn x (checked listed next nonces (k + 1) ss) ≡ orElse (Option·map (checkedBy next nonces) (checkFor x listed (k + 1) ss)) (statusIn x ss) →
+          statusIn x (cond b (withCheck next nonces k s ∷ checked listed next nonces (k + 1) ss) (s ∷ checked listed next nonces k ss))
+          ≡ orElse (Option·map (checkedBy next nonces) (cond (holds x s) (cond b (some k) none) (checkFor x listed (cond b (k + 1) k) ss)))
+          (orElse (statusHeld x (s .holding)) (statusIn x ss))
+      go true same more = held-status k (s .holding) true (statusIn x ss) (statusIn x (checked listed next nonces (k + 1) ss)) (checkFor x listed (k + 1) ss) more
+      go false same more = held-status k (s .holding) false (statusIn x ss) (statusIn x (checked listed next nonces k ss)) (checkFor x listed k ss) same
 
-  -- the nonce that an address has afterwards is the one that its new check took, or else the one that it had
-  held-nonce : (k : ℕ) (h : Holding) (o o′ : Option Status) (t : Option ℕ) (b : Bool) → awaitsHeld listed h ≡ b → nonceHeld o′ ≡ orElse t (nonceHeld o) →
-      nonceHeld (orElse (statusHeld x (cond b (withCheck offer nonces k (record { holding = h })) (record { holding = h }) .holding)) o′)
-      ≡ orElse (cond (holdsHeld x h) (cond b (some (getD nonces k 0)) none) t) (nonceHeld (orElse (statusHeld x h) o))
-  held-nonce k Empty o o′ t true p q = q
-  held-nonce k Empty o o′ t false p q = q
-  held-nonce k (Held l) o o′ t true p q = go (sameAddress x (l .address))
-    where
-      go : (c : Bool) → nonceHeld (orElse (cond c (some (checkedBy offer nonces k)) none) o′)
-          ≡ orElse (cond c (some (getD nonces k 0)) t) (nonceHeld (orElse (cond c (some (l .status)) none) o))
-      go true = refl
-      go false = q
-  held-nonce k (Held l) o o′ t false p q = go (sameAddress x (l .address))
-    where
-      go : (c : Bool) → nonceHeld (orElse (cond c (some (l .status)) none) o′) ≡ orElse (cond c none t) (nonceHeld (orElse (cond c (some (l .status)) none) o))
-      go true = refl
-      go false = q
+-- a slot that holds the address decides, and else the slots after it
+module _ (x : Address) (listed : List ListedLocator) where
+  -- what gets a check was DEPRECATED, and is listed
+  pub record Awaited (ss : List Slot) : Type 0 where
+    pub deprecated : statusIn x ss ≡ some Deprecated
+    pub is-listed : isListed x listed ≡ true
 
-  pub checked-nonce : (k : ℕ) (ss : List Slot) →
-      nonceHeld (statusIn x (checked listed offer nonces k ss)) ≡ orElse (nonceTaken x listed nonces k ss) (nonceHeld (statusIn x ss))
-  unfolding checked statusIn nonceTaken
-  checked-nonce k [] = refl
-  checked-nonce k (s ∷ ss) = go (awaits listed s) refl (checked-nonce k ss) (checked-nonce (k + 1) ss)
+  pub check-awaited : (k j : ℕ) (ss : List Slot) → checkFor x listed k ss ≡ some j → Awaited ss
+  unfolding checkFor statusIn
+  check-awaited k j [] p = let z : _≡_ {A = ℕ} 0 1 = cc in absurd (omega arith)
+  check-awaited k j (s ∷ ss) p = go (s .holding) refl (check-awaited (cond (awaits listed s) (k + 1) k) j ss) p
     where
-      go : (b : Bool) → awaits listed s ≡ b →
-          nonceHeld (statusIn x (checked listed offer nonces k ss)) ≡ orElse (nonceTaken x listed nonces k ss) (nonceHeld (statusIn x ss)) →
-          nonceHeld (statusIn x (checked listed offer nonces (k + 1) ss)) ≡ orElse (nonceTaken x listed nonces (k + 1) ss) (nonceHeld (statusIn x ss)) →
-          nonceHeld (statusIn x (cond b (withCheck offer nonces k s ∷ checked listed offer nonces (k + 1) ss) (s ∷ checked listed offer nonces k ss)))
-          ≡ orElse (cond (holds x s) (cond b (some (getD nonces k 0)) none) (nonceTaken x listed nonces (cond b (k + 1) k) ss))
-          (nonceHeld (orElse (statusHeld x (s .holding)) (statusIn x ss)))
-      go true p same more =
-          held-nonce k (s .holding) (statusIn x ss) (statusIn x (checked listed offer nonces (k + 1) ss)) (nonceTaken x listed nonces (k + 1) ss) true p more
-      go false p same more =
-          held-nonce k (s .holding) (statusIn x ss) (statusIn x (checked listed offer nonces k ss)) (nonceTaken x listed nonces k ss) false p same
+      deprecated-is : (t : Status) → isDeprecated t ≡ true → t ≡ Deprecated
+      deprecated-is (Unverified c) q = cc
+      deprecated-is Active q = cc
+      deprecated-is Deprecated q = refl
+
+      taken : (b : Bool) → cond b (some k) none ≡ some j → b ≡ true
+      taken true q = refl
+      taken false q = cc
+
+      here : (l : Locator) (c : Bool) → s .holding ≡ Held l → sameAddress x (l .address) ≡ c →
+          (checkFor x listed (cond (awaits listed s) (k + 1) k) ss ≡ some j → Awaited ss) →
+          cond c (cond (awaits listed s) (some k) none) (checkFor x listed (cond (awaits listed s) (k + 1) k) ss) ≡ some j → Awaited (s ∷ ss)
+      here l true e same rest p =
+          let both : (isDeprecated (l .status) && isListed (l .address) listed) ≡ true = sym (ap (awaitsHeld listed) e) ∙ taken (awaits listed s) p in
+          record {
+            deprecated = rw (e, same) (ap some (deprecated-is (l .status) (and-true-left (isDeprecated (l .status)) (isListed (l .address) listed) both)));
+            is-listed = rw (same-equal x (l .address) same) (and-true-right (isDeprecated (l .status)) (isListed (l .address) listed) both);
+          }
+      here l false e same rest p = let r = rest p in record { deprecated = rw (e, same) (r .deprecated); is-listed = r .is-listed }
+
+      go : (h : Holding) → s .holding ≡ h → (checkFor x listed (cond (awaits listed s) (k + 1) k) ss ≡ some j → Awaited ss) →
+          cond (holdsHeld x h) (cond (awaits listed s) (some k) none) (checkFor x listed (cond (awaits listed s) (k + 1) k) ss) ≡ some j → Awaited (s ∷ ss)
+      go Empty e rest p = let r = rest p in record { deprecated = rw e (r .deprecated); is-listed = r .is-listed }
+      go (Held l) e rest p = here l (sameAddress x (l .address)) e refl rest p
+
+  -- a listed address that gets none was not DEPRECATED
+  pub check-none : (k : ℕ) (ss : List Slot) → isListed x listed ≡ true → checkFor x listed k ss ≡ none → live (statusIn x ss) ≡ statusIn x ss
+  unfolding checkFor statusIn
+  check-none k [] l p = refl
+  check-none k (s ∷ ss) l p = go (s .holding) refl (check-none (cond (awaits listed s) (k + 1) k) ss l) p
+    where
+      here : (m : Locator) (c : Bool) → sameAddress x (m .address) ≡ c →
+          (checkFor x listed (cond (awaits listed s) (k + 1) k) ss ≡ none → live (statusIn x ss) ≡ statusIn x ss) → awaits listed s ≡ awaitsHeld listed (Held m) →
+          cond c (cond (awaits listed s) (some k) none) (checkFor x listed (cond (awaits listed s) (k + 1) k) ss) ≡ none →
+          live (orElse (cond c (some (m .status)) none) (statusIn x ss)) ≡ orElse (cond c (some (m .status)) none) (statusIn x ss)
+      here m true same rest e p = status (m .status) (rw (← same-equal x (m .address) same, l) at (sym e ∙ none-taken (awaits listed s) p))
+        where
+          none-taken : (b : Bool) → cond b (some k) none ≡ none → b ≡ false
+          none-taken true q = cc
+          none-taken false q = refl
+
+          status : (t : Status) → (isDeprecated t && true) ≡ false → live (some t) ≡ some t
+          status (Unverified c) q = refl
+          status Active q = refl
+          status Deprecated q = cc
+      here m false same rest e p = rest p
+
+      go : (h : Holding) → s .holding ≡ h → (checkFor x listed (cond (awaits listed s) (k + 1) k) ss ≡ none → live (statusIn x ss) ≡ statusIn x ss) →
+          cond (holdsHeld x h) (cond (awaits listed s) (some k) none) (checkFor x listed (cond (awaits listed s) (k + 1) k) ss) ≡ none →
+          live (orElse (statusHeld x (s .holding)) (statusIn x ss)) ≡ orElse (statusHeld x (s .holding)) (statusIn x ss)
+      go Empty e rest p = rw e (rest p)
+      go (Held m) e rest p = rw e (here m (sameAddress x (m .address)) refl rest (ap (awaitsHeld listed) e) p)
 
 -- ---- how many
 module _ (listed : List ListedLocator) (next : ℕ) (nonces : List ℕ) where
@@ -242,33 +273,3 @@ module _ (next : ℕ) (nonces : List ℕ) where
         go false e same more =
             let counted : checkCount listed (s ∷ ss) ≡ checkCount listed ss = rw e in
             (rest-clear s k ss (p .0) (λ j l m. (o .fresh j (omega arith)) .0), same (omega arith))
-
--- ---- the checks leave no listed address DEPRECATED
-pub checked-live : (x : Address) (listed : List ListedLocator) (next : ℕ) (nonces : List ℕ) (k : ℕ) (ss : List Slot) → isListed x listed ≡ true → isHeld x ss ≡ true →
-    isDead (statusIn x (checked listed next nonces k ss)) ≡ false
-unfolding checked statusIn records.some
-checked-live x listed next nonces k [] l h = cc
-checked-live x listed next nonces k (s ∷ ss) l h =
-    go (s .holding) (awaits listed s) refl (checked-live x listed next nonces k ss l) (checked-live x listed next nonces (k + 1) ss l) refl h
-  where
-    here : (m : Locator) (b c : Bool) (o : Option Status) → (isDeprecated (m .status) && isListed (m .address) listed) ≡ b → sameAddress x (m .address) ≡ c →
-        (c ≡ false → isDead o ≡ false) → isDead (orElse (cond c (some (cond b (checkedBy next nonces k) (m .status))) none) o) ≡ false
-    here m b false o p q r = r refl
-    here m true true o p q r = refl
-    here m false true o p q r = status (m .status) (rw (← same-equal x (m .address) q, l) at p)
-      where
-        status : (t : Status) → (isDeprecated t && true) ≡ false → isDead (some t) ≡ false
-        status (Unverified c) u = refl
-        status Active u = refl
-        status Deprecated u = u
-
-    go : (h : Holding) (b : Bool) → awaits listed s ≡ b →
-        (isHeld x ss ≡ true → isDead (statusIn x (checked listed next nonces k ss)) ≡ false) →
-        (isHeld x ss ≡ true → isDead (statusIn x (checked listed next nonces (k + 1) ss)) ≡ false) → s .holding ≡ h → (holdsHeld x h || isHeld x ss) ≡ true →
-        isDead (statusIn x (cond b (withCheck next nonces k s ∷ checked listed next nonces (k + 1) ss) (s ∷ checked listed next nonces k ss))) ≡ false
-    go Empty true p same more e q = rw e (more q)
-    go Empty false p same more e q = rw e (same q)
-    go (Held m) true p same more e q =
-        rw e (here m true (sameAddress x (m .address)) (statusIn x (checked listed next nonces (k + 1) ss)) (rw e at p) refl (λ u. more (rw u at q)))
-    go (Held m) false p same more e q =
-        rw e (here m false (sameAddress x (m .address)) (statusIn x (checked listed next nonces k ss)) (rw e at p) refl (λ u. same (rw u at q)))

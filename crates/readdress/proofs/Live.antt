@@ -40,3 +40,10 @@ nonce-live none = refl
 nonce-live (some (Unverified k)) = refl
 nonce-live (some Active) = refl
 nonce-live (some Deprecated) = refl
+
+-- what is live is as it stands
+pub live-some : (o : Option Status) (s : Status) → live o ≡ some s → o ≡ some s
+live-some none s p = p
+live-some (some (Unverified k)) s p = p
+live-some (some Active) s p = p
+live-some (some Deprecated) s p = cc

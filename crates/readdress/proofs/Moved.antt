@@ -1,7 +1,8 @@
 -- A Move as a whole: what it keeps of slots that do not clash and of the preference, and that it leaves every listed address ACTIVE or UNVERIFIED.
 -- Assumes nothing.
-use mathlib.Core.Path.{_≡_, refl, _∙_}
+use mathlib.Core.Path.{_≡_, refl, _∙_, sym, ap}
 use mathlib.Core.Bool.{Bool, true, false, cond}
+use mathlib.Core.Option.{Option, none, some, Option·map}
 use mathlib.Core.List.{List, [], _∷_}
 use Prim.Native.Nat.{ℕ, _≤_, _<_}
 use lib.Dec.{eqb}
@@ -12,23 +13,27 @@ use Rattle.address.specs.declared.Address.{Address}
 use Rattle.packet.specs.declared.EchoResponse.{EchoResponse}
 use Rattle.locator.specs.declared.ListedLocator.{ListedLocator}
 use Rattle.slot.proofs.Settled.{Clear}
-use Rattle.slot.specs.Found.{holds, statusIn, slotCount}
+use Rattle.slot.specs.Found.{holds, statusIn, slotCount, orElse, isActive, isUnverified, foundAs}
 use Rattle.slot.specs.declared.Slot.{Slot}
+use Rattle.slot.specs.declared.Status.{Status}
+use Rattle.slot.specs.declared.Status.the-variants.{Unverified, Active, Deprecated}
 use Rattle.slots.proofs.Each.{Pairs}
+use Rattle.slots.proofs.Statuses.{isFound, held-found}
 use Rattle.path.proofs.Lowest.{lowest-within}
 use Rattle.path.specs.Choices.{lowest}
 use Rattle.path.specs.declared.Choice.{Choice}
 use Rattle.path.specs.declared.Choice.the-variants.{Nowhere, Chosen}
 use Rattle.path.specs.declared.Preference.{Preference}
 use Rattle.path.specs.declared.Preference.the-variants.{NoPreference, Prefers}
-use Rattle.readdress.specs.Checks.{checkCount, refusal10, nonceCount}
+use Rattle.readdress.specs.Checks.{checkCount, refusal10, nonceCount, checkedBy, checkFor}
 use Rattle.readdress.specs.Moves.{settled, placed, newSlots, newPreference}
 use Rattle.readdress.specs.Steps.{isListed, placeAll, dropped, markedSlot, prefer}
 use Rattle.readdress.specs.declared.Placement.{Placement}
-use Rattle.readdress.proofs.Live.{isDead}
-use Rattle.readdress.proofs.Settled.{settled-length, settled-apart, settled-without}
+use Rattle.readdress.proofs.Live.{live, isDead}
+use Rattle.readdress.proofs.Settled.{settledStatus, settled-length, settled-apart, settled-without}
 use Rattle.readdress.proofs.Placed.{entries-keep, placed-apart, placed-length, placed-without}
-use Rattle.readdress.proofs.Checked.{checked-length, count-most, offered, checked-apart, checked-live}
+use Rattle.readdress.proofs.Checked.{checked-length, count-most, offered, checked-apart, checked-status, check-none}
+use Rattle.readdress.proofs.Turned.{move-inactive}
 use Rattle.readdress.proofs.Room.{Ready, settled-sorted, Rooms, rooms, all-held, each-listed}
 
 marked-within : (listed : List ListedLocator) (ss : List Slot) (n : ℕ) → markedSlot listed ss ≡ Chosen n → n < length ss
@@ -107,4 +112,32 @@ module _ (time : ℕ) (differs : Bool) (e : EchoResponse) (listed : List ListedL
       pub listed-live : (x : Address) → isListed x listed ≡ true → isDead (statusIn x (newSlots listed next nonces (placed time differs e listed p ss))) ≡ false
       unfolding placed
       listed-live x l =
-          checked-live x listed next nonces 0 (placeAll time listed listed before .slots) l (all-held time listed x listed before l room-found l)
+          ap isDead (checked-status x listed next nonces 0 five)
+          ∙ go (checkFor x listed 0 five) (check-none x listed 0 five l) (held-found x five (all-held time listed x listed before l room-found l))
+        where
+          five : List Slot
+          five = placeAll time listed listed before .slots
+
+          found : (o : Option Status) → live o ≡ o → isFound o ≡ true → isDead o ≡ false
+          found none q r = sym r
+          found (some (Unverified k)) q r = refl
+          found (some Active) q r = refl
+          found (some Deprecated) q r = cc
+
+          go : (c : Option ℕ) → (c ≡ none → live (statusIn x five) ≡ statusIn x five) → isFound (statusIn x five) ≡ true →
+              isDead (orElse (Option·map (checkedBy next nonces) c) (statusIn x five)) ≡ false
+          go none q r = found (statusIn x five) (q refl) r
+          go (some j) q r = refl
+
+      -- one that is neither ACTIVE nor UNVERIFIED after step 4 is UNVERIFIED: "DEPRECATED turns UNVERIFIED with a new check", and a new one "is UNVERIFIED"
+      pub listed-unverified : (x : Address) → isListed x listed ≡ true → live (Option·map (settledStatus (isListed x listed) differs e) (statusIn x ss)) ≡ none →
+          foundAs isUnverified (statusIn x (newSlots listed next nonces (placed time differs e listed p ss))) ≡ true
+      listed-unverified x l q =
+          go (statusIn x (newSlots listed next nonces (placed time differs e listed p ss))) (listed-live x l)
+          (move-inactive x time differs e listed p next nonces ss q)
+        where
+          go : (o : Option Status) → isDead o ≡ false → foundAs isActive o ≡ false → foundAs isUnverified o ≡ true
+          go none r t = sym r
+          go (some (Unverified k)) r t = refl
+          go (some Active) r t = sym t
+          go (some Deprecated) r t = sym r

@@ -174,7 +174,7 @@ module _ (x : Address) (time : ℕ) (listed : List ListedLocator) where
       held Empty = refl
       held (Held m) = same m (sameAddress x (m .address)) (isListed (m .address) listed) refl refl
 
-unlisted-none : (differs : Bool) (e : EchoResponse) (o : Option Status) → live (Option·map (settledStatus false differs e) o) ≡ none
+pub unlisted-none : (differs : Bool) (e : EchoResponse) (o : Option Status) → live (Option·map (settledStatus false differs e) o) ≡ none
 unlisted-none differs e none = refl
 unlisted-none differs e (some s) = refl
 

@@ -2,7 +2,7 @@
 -- checks go "in slot order", over both, so they are given out when steps 1 to 5 are done.
 use Prim.Native.Nat.{ℕ, _+_}
 use mathlib.Core.Bool.{Bool, false, cond, _&&_, _||_}
-use mathlib.Core.Option.{Option, none, some}
+use mathlib.Core.Option.{Option, none, some, Option·map}
 use mathlib.Core.List.{List, [], _∷_}
 use lib.Dec.{eqb}
 use lib.ListN.{getD}
@@ -50,11 +50,14 @@ checked set next nonces k [] = []
 checked set next nonces k (s ∷ ss) =
     cond (awaits set s) (withCheck next nonces k s ∷ checked set next nonces (k + 1) ss) (s ∷ checked set next nonces k ss)
 
--- the nonce that the check for an address takes, from check k on; none where the address gets no check
-unfoldable pub nonceTaken : Address → List ListedLocator → (nonces : List ℕ) → (k : ℕ) → List Slot → Option ℕ
-nonceTaken x set nonces k [] = none
-nonceTaken x set nonces k (s ∷ ss) =
-    cond (holds x s) (cond (awaits set s) (some (getD nonces k 0)) none) (nonceTaken x set nonces (cond (awaits set s) (k + 1) k) ss)
+-- which of the new checks, from check k on, an address gets; none where it gets none
+unfoldable pub checkFor : Address → List ListedLocator → (k : ℕ) → List Slot → Option ℕ
+checkFor x set k [] = none
+checkFor x set k (s ∷ ss) = cond (holds x s) (cond (awaits set s) (some k) none) (checkFor x set (cond (awaits set s) (k + 1) k) ss)
+
+-- the nonce that its check takes
+abbrev pub nonceTaken : Address → List ListedLocator → (nonces : List ℕ) → List Slot → Option ℕ
+nonceTaken x set nonces ss = Option·map (λ (k : ℕ). getD nonces k 0) (checkFor x set 0 ss)
 
 -- "distinct from each other": one of them stands among those after it
 unfoldable pub twice : List ℕ → Bool

@@ -1,6 +1,6 @@
 -- The status of an address under a change of every locator, and whether a slot holds it. Assumes nothing.
 use mathlib.Core.Path.{_≡_, refl}
-use mathlib.Core.Bool.{Bool, true, false, cond}
+use mathlib.Core.Bool.{Bool, true, false, cond, _||_}
 use mathlib.Core.Option.{Option, none, some, Option·map}
 use mathlib.Core.List.{List, [], _∷_, map}
 use Rattle.boolean.proofs.Laws.{or-false-left, or-false-right}
@@ -51,3 +51,23 @@ unheld-none x [] p = refl
 unheld-none x (s ∷ ss) p =
     rw (not-held x (s .holding) (or-false-left (holds x s) (records.some (holds x) ss) p))
     (unheld-none x ss (or-false-right (holds x s) (records.some (holds x) ss) p))
+
+-- an address that a slot holds has one
+abbrev pub isFound : Option Status → Bool
+isFound none = false
+isFound (some s) = true
+
+pub held-found : (x : Address) (ss : List Slot) → records.some (holds x) ss ≡ true → isFound (statusIn x ss) ≡ true
+unfolding statusIn records.some
+held-found x [] p = p
+held-found x (s ∷ ss) p = go (s .holding) (held-found x ss) p
+  where
+    here : (l : Locator) (b : Bool) → (records.some (holds x) ss ≡ true → isFound (statusIn x ss) ≡ true) → (b || records.some (holds x) ss) ≡ true →
+        isFound (orElse (cond b (some (l .status)) none) (statusIn x ss)) ≡ true
+    here l true rest q = refl
+    here l false rest q = rest q
+
+    go : (h : Holding) → (records.some (holds x) ss ≡ true → isFound (statusIn x ss) ≡ true) → (holdsHeld x h || records.some (holds x) ss) ≡ true →
+        isFound (orElse (statusHeld x h) (statusIn x ss)) ≡ true
+    go Empty rest q = rest q
+    go (Held l) rest q = here l (sameAddress x (l .address)) rest q
