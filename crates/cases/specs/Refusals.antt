@@ -9,7 +9,7 @@ use Rattle.parameter.specs.Written.{parameterBytes}
 use Rattle.slot.specs.declared.Status.the-variants.{Active, Deprecated}
 use Rattle.slot.specs.declared.Slot.{Slot}
 use Rattle.slot.specs.Found.{emptySlot}
-use Rattle.path.specs.declared.Preference.the-variants.{Prefers}
+use Rattle.path.specs.declared.Preference.the-variants.{NoPreference, Prefers}
 use Rattle.association.specs.declared.PeerId.the-variants.{Highest}
 use Rattle.association.specs.declared.Association.{Association}
 use Rattle.association.specs.Form.{refused}
@@ -21,7 +21,7 @@ use Rattle.update.specs.declared.MessageOutcome.the-variants.{Moved, Replied, R
 use Rattle.update.specs.Messages.{messageOf}
 use Rattle.cases.specs.Packets.{packetOf, esp, idOf, echo, address, locator, bound, setOf, keymatIndex, moveParts, moveOf, echoingMove, replyOf}
 use Rattle.cases.specs.Held.{holding, checked}
-use Rattle.cases.specs.Tables.{Seen, status, answer, sent, Case, _gives_, statusAfter, message, told, declined}
+use Rattle.cases.specs.Tables.{Seen, status, prefers, answer, sent, Case, _gives_, statusAfter, message, told, declined}
 use Rattle.cases.specs.Unfolded.{calls}
 
 -- ---- associations
@@ -120,6 +120,11 @@ unknown = parameterBytes 67 []
 abbrev falling : List ℕ
 falling = packetOf (goodEsp ++ (idOf 7 ++ setOf listed))
 
+-- the preference after a Move of address 1, 2 and 4, which takes slot 2, where slot n was preferred; address 4 with P or without it (1 or 0)
+abbrev preferring : (n p : ℕ) → Seen
+preferring n p =
+    prefers (messageOf (with 1000 6 3 n three) (moveOf outbound outbound 7 (plain 1 ∷ plain 2 ∷ locator 0 p 60 4 ∷ [])) true nonces buffer .association .preferred)
+
 -- the message that brings this packet, with all else as for an accepted one
 abbrev brings : (packet : List ℕ) → Seen
 brings packet = message found packet true nonces buffer
@@ -175,6 +180,11 @@ table =
     -- "What follows in the same message may retire it again.": the echo turns address 2 ACTIVE, the new SPI DEPRECATED, and listed it has a new check
     ∷ (statusAfter (address 2) (messageOf found (echoingMove outbound other 7 (bound other 2 ∷ []) 9) true nonces buffer .association)
     gives status (some (checked 0x0102030405060708 3)))
+    -- "A preference for a refilled slot is dropped.", and another stays; "The locator with P becomes preferred"
+    ∷ (preferring 2 0 gives prefers NoPreference)
+    ∷ (preferring 0 0 gives prefers (Prefers 0))
+    ∷ (preferring 0 1 gives prefers (Prefers 2))
+    ∷ (preferring 2 1 gives prefers (Prefers 2))
     -- an accepted Reply; and one with eight equal nonces, one of them outstanding: refusal 10 is "for a Move"
     ∷ (brings (replyOf 9) gives told Replied 0 0 0 replied buffer)
     ∷ (message found (replyOf 9) true (replicate 8 9) buffer gives told Replied 0 0 0 replied buffer)

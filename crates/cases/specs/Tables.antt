@@ -7,6 +7,7 @@ use Rattle.refusal.specs.Table.{refusal}
 use Rattle.address.specs.declared.Address.{Address}
 use Rattle.slot.specs.declared.Status.{Status}
 use Rattle.slot.specs.Found.{statusIn}
+use Rattle.path.specs.declared.Preference.{Preference}
 use Rattle.association.specs.declared.Association.{Association}
 use Rattle.association.specs.declared.Answer.{Answer}
 use Rattle.payload.specs.declared.SendAnswer.{SendAnswer}
@@ -15,11 +16,12 @@ use Rattle.update.specs.declared.MessageOutcome.the-variants.{Declined}
 use Rattle.update.specs.declared.MessageAnswer.{MessageAnswer}
 use Rattle.update.specs.Messages.{messageOf, bufferAfter}
 
--- what is seen: a number; the status of an address; the whole answer to a start, an arrival or a tick, to a send, and to a message with the lent
+-- what is seen: a number; the status of an address; the preference; the whole answer to a start, an arrival or a tick, to a send, and to a message with the lent
 -- buffer after it
 pub data Seen : Type 0 where
   number : ℕ → Seen
   status : Option Status → Seen
+  prefers : Preference → Seen
   answer : Answer → Seen
   sent : SendAnswer → Seen
   heard : MessageAnswer → (buffer : List ℕ) → Seen
