@@ -24,17 +24,17 @@ nonceCount = 8
 
 -- what is held after step 5 gets a new check: a listed address that is DEPRECATED
 abbrev pub awaitsHeld : List ListedLocator → Holding → Bool
-awaitsHeld set Empty = false
-awaitsHeld set (Held l) = isDeprecated (l .status) && isListed (l .address) set
+awaitsHeld listed Empty = false
+awaitsHeld listed (Held l) = isDeprecated (l .status) && isListed (l .address) listed
 
 -- the same, of a slot
 abbrev pub awaits : List ListedLocator → Slot → Bool
-awaits set s = awaitsHeld set (s .holding)
+awaits listed s = awaitsHeld listed (s .holding)
 
 -- the number of new checks
 unfoldable pub checkCount : List ListedLocator → List Slot → ℕ
-checkCount set [] = 0
-checkCount set (s ∷ ss) = cond (awaits set s) (1 + checkCount set ss) (checkCount set ss)
+checkCount listed [] = 0
+checkCount listed (s ∷ ss) = cond (awaits listed s) (1 + checkCount listed ss) (checkCount listed ss)
 
 -- UNVERIFIED, with the check that takes nonce k of those offered and own Update ID next + k
 abbrev pub checkedBy : (next : ℕ) → (nonces : List ℕ) → (k : ℕ) → Status
@@ -46,18 +46,18 @@ withCheck next nonces k s = onLocator (λ (l : Locator). withStatus l (checkedBy
 
 -- from check k on: "New checks, in slot order, take them in order and own Update IDs in order."
 unfoldable pub checked : List ListedLocator → (next : ℕ) → (nonces : List ℕ) → (k : ℕ) → List Slot → List Slot
-checked set next nonces k [] = []
-checked set next nonces k (s ∷ ss) =
-    cond (awaits set s) (withCheck next nonces k s ∷ checked set next nonces (k + 1) ss) (s ∷ checked set next nonces k ss)
+checked listed next nonces k [] = []
+checked listed next nonces k (s ∷ ss) =
+    cond (awaits listed s) (withCheck next nonces k s ∷ checked listed next nonces (k + 1) ss) (s ∷ checked listed next nonces k ss)
 
 -- which of the new checks, from check k on, an address gets; none where it gets none
 unfoldable pub checkFor : Address → List ListedLocator → (k : ℕ) → List Slot → Option ℕ
-checkFor x set k [] = none
-checkFor x set k (s ∷ ss) = cond (holds x s) (cond (awaits set s) (some k) none) (checkFor x set (cond (awaits set s) (k + 1) k) ss)
+checkFor x listed k [] = none
+checkFor x listed k (s ∷ ss) = cond (holds x s) (cond (awaits listed s) (some k) none) (checkFor x listed (cond (awaits listed s) (k + 1) k) ss)
 
 -- the nonce that its check takes
 abbrev pub nonceTaken : Address → List ListedLocator → (nonces : List ℕ) → List Slot → Option ℕ
-nonceTaken x set nonces ss = Option·map (λ (k : ℕ). getD nonces k 0) (checkFor x set 0 ss)
+nonceTaken x listed nonces ss = Option·map (λ (k : ℕ). getD nonces k 0) (checkFor x listed 0 ss)
 
 -- "distinct from each other": one of them stands among those after it
 unfoldable pub twice : List ℕ → Bool

@@ -13,20 +13,20 @@ use Rattle.readdress.specs.declared.Placement.{Placement}
 
 -- steps 1 to 4
 unfoldable pub settled : (time : ℕ) → (differs : Bool) → EchoResponse → List ListedLocator → List Slot → List Slot
-settled time differs e set ss = retireAll set (renewAll time set (rebind differs (verifyAll e ss)))
+settled time differs e listed ss = retireAll listed (renewAll time listed (rebind differs (verifyAll e ss)))
 
 -- steps 1 to 5
 unfoldable pub placed : (time : ℕ) → (differs : Bool) → EchoResponse → List ListedLocator → Preference → List Slot → Placement
-placed time differs e set p ss = placeAll time set set (record { slots = settled time differs e set ss; preferred = p })
+placed time differs e listed p ss = placeAll time listed listed (record { slots = settled time differs e listed ss; preferred = p })
 
 -- the number of new checks
 abbrev pub newChecks : List ListedLocator → Placement → ℕ
-newChecks set p = checkCount set (p .slots)
+newChecks listed p = checkCount listed (p .slots)
 
 -- the slots with them: the first takes the first nonce and the next own Update ID
 abbrev pub newSlots : List ListedLocator → (next : ℕ) → (nonces : List ℕ) → Placement → List Slot
-newSlots set next nonces p = checked set next nonces 0 (p .slots)
+newSlots listed next nonces p = checked listed next nonces 0 (p .slots)
 
 -- the preference after step 6
 abbrev pub newPreference : List ListedLocator → Placement → Preference
-newPreference set p = prefer (markedSlot set (p .slots)) (p .preferred)
+newPreference listed p = prefer (markedSlot listed (p .slots)) (p .preferred)

@@ -44,35 +44,35 @@ renewBy time (some e) l = record { address = l .address; traffic = e .traffic; e
 
 -- a locator by the set's entry for its address
 abbrev pub renew : (time : ℕ) → List ListedLocator → Locator → Locator
-renew time set l = renewBy time (entryFor (l .address) set) l
+renew time listed l = renewBy time (entryFor (l .address) listed) l
 
 -- "Each listed address already held takes the new traffic type and expiry .. ACTIVE stays; UNVERIFIED keeps its check." One that is DEPRECATED
 -- awaits its new check: `Checks.awaits`
 unfoldable pub renewAll : (time : ℕ) → List ListedLocator → List Slot → List Slot
-renewAll time set ss = map (onLocator (renew time set)) ss
+renewAll time listed ss = map (onLocator (renew time listed)) ss
 
 -- ---- step 4
 -- the set lists the address
 abbrev pub isListed : Address → List ListedLocator → Bool
-isListed x set = records.some (λ (e : ListedLocator). sameAddress x (e .address)) set
+isListed x listed = records.some (λ (e : ListedLocator). sameAddress x (e .address)) listed
 
 -- a locator that is not listed turns DEPRECATED
 abbrev pub retire : List ListedLocator → Locator → Locator
-retire set l = cond (isListed (l .address) set) l (deprecate l)
+retire listed l = cond (isListed (l .address) listed) l (deprecate l)
 
 -- "Held addresses not listed turn DEPRECATED."
 unfoldable pub retireAll : List ListedLocator → List Slot → List Slot
-retireAll set ss = map (onLocator (retire set)) ss
+retireAll listed ss = map (onLocator (retire listed)) ss
 
 -- ---- step 5
 -- what is held makes room: nothing, or "a DEPRECATED address not listed"
 abbrev pub freeHeld : List ListedLocator → Holding → Bool
-freeHeld set Empty = true
-freeHeld set (Held l) = isDeprecated (l .status) && not (isListed (l .address) set)
+freeHeld listed Empty = true
+freeHeld listed (Held l) = isDeprecated (l .status) && not (isListed (l .address) listed)
 
 -- a slot "that is empty or holds a DEPRECATED address not listed"
 abbrev pub isFree : List ListedLocator → Slot → Bool
-isFree set s = freeHeld set (s .holding)
+isFree listed s = freeHeld listed (s .holding)
 
 -- a slot with a listed address, which awaits its check
 abbrev pub entered : (time : ℕ) → ListedLocator → Slot
