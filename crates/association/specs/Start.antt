@@ -1,6 +1,6 @@
 -- "Start takes time, two 32-bit SPIs, an address and a 32-bit lifetime. Slot 0 becomes ACTIVE, traffic type 0, preferred. Credit is 0; last
 -- ageing is the start time."
-use Prim.Native.Nat.{ℕ, _+_, _-_}
+use Prim.Native.Nat.{ℕ, _-_}
 use mathlib.Core.Bool.{Bool, not, cond, _||_}
 use mathlib.Core.List.{List, _∷_}
 use lib.Dec.{leb, eqb}
@@ -10,6 +10,7 @@ use Rattle.address.specs.Rules.{legal}
 use Rattle.slot.specs.declared.Status.the-variants.{Active}
 use Rattle.slot.specs.declared.Slot.{Slot}
 use Rattle.slot.specs.Found.{slotCount, emptySlot, slotOf}
+use Rattle.slot.specs.Expiry.{expiryAt}
 use Rattle.path.specs.declared.Preference.the-variants.{NoPreference, Prefers}
 use Rattle.path.specs.Choices.{trafficBoth}
 use Rattle.credit.specs.Clock.{timeLimit}
@@ -48,7 +49,7 @@ noAssociation = record {
 -- "Slot 0 becomes ACTIVE, traffic type 0", and the others are empty
 abbrev pub startSlots : (time : ℕ) → Address → (lifetime : ℕ) → List Slot
 startSlots time address lifetime =
-    slotOf (record { address = address; traffic = trafficBoth; expiry = time + lifetime; status = Active }) ∷ replicate (slotCount - 1) emptySlot
+    slotOf (record { address = address; traffic = trafficBoth; expiry = expiryAt time lifetime; status = Active }) ∷ replicate (slotCount - 1) emptySlot
 
 -- the association that an accepted start makes: highest peer Update ID "none at first", next own Update ID "0 at first"
 abbrev pub started : (time outbound inbound : ℕ) → Address → (lifetime : ℕ) → Association

@@ -1,7 +1,9 @@
 -- Laws of tests that the library lacks. Assumes nothing.
-use mathlib.Core.Path.{_≡_, refl}
+use mathlib.Core.Path.{_≡_, refl, sym}
 use Prim.Native.Nat.{ℕ}
+use lib.Dec.{eqb}
 use native.Mathlib.Omega.{arith}
+use borrow.Author.Tests.{eqb-false, ne-eqb}
 use mathlib.Core.Bool.{Bool, true, false, cond, _&&_, _||_}
 
 -- the two answers differ
@@ -20,6 +22,10 @@ and-false false = refl
 pub or-true : (a b : Bool) → b ≡ true → (a || b) ≡ true
 or-true true b e = refl
 or-true false b e = e
+
+-- two numbers that are not equal are not equal the other way round
+pub eqb-turned : (m n : ℕ) → eqb m n ≡ false → eqb n m ≡ false
+eqb-turned m n p = ne-eqb n m (λ e. eqb-false m n p (sym e))
 
 -- neither of two tests holds where their disjunction does not
 pub or-false-left : (a b : Bool) → (a || b) ≡ false → a ≡ false

@@ -9,10 +9,7 @@ use Rattle.boolean.proofs.Laws.{apart, cond-all}
 use Rattle.refusal.specs.declared.Refusal.{Refusal}
 use Rattle.refusal.specs.Table.{refusal}
 use Rattle.address.specs.declared.Address.{Address}
-use Rattle.packet.specs.declared.Message.{Message}
-use Rattle.packet.specs.declared.Message.the-variants.{Refused, Move, Reply}
 use Rattle.packet.specs.Readings.{readingOf}
-use Rattle.locator.specs.declared.ListedLocator.{ListedLocator}
 use Rattle.slot.specs.declared.Status.{Status}
 use Rattle.slot.specs.declared.Status.the-variants.{Unverified, Active, Deprecated}
 use Rattle.slot.specs.Found.{statusIn, statusAt, isActive, isUnverified, foundAs}
@@ -36,8 +33,11 @@ use Rattle.payload.proofs.Kept.{arrival-keeps, send-keeps}
 use Rattle.clock.specs.Ticks.{ticked, tickOf}
 use Rattle.clock.proofs.Kept.{tick-keeps}
 use Rattle.readdress.specs.Checks.{nonceCount}
-use Rattle.update.specs.Messages.{Handled, afterMove, handleMessage, handled}
-use Rattle.update.proofs.Cases.{reply-ends, move-ends, message-ends}
+use Rattle.update.specs.declared.MessageOutcome.{MessageOutcome}
+use Rattle.update.specs.declared.MessageOutcome.the-variants.{Moved, Replied, Repeated, Declined}
+use Rattle.update.specs.Messages.{handleMessage, handled}
+use Rattle.update.proofs.Cases.{message-ends}
+use Rattle.update.proofs.Untouched.{isDeclined, message-untouched}
 use Rattle.update.proofs.Kept.{message-keeps}
 use Rattle.history.specs.Calls.{Call, message, arrival, send, tick, Answered, refusedBy, ofOutcome, ofSend, ofMessage, answers, returned, isAccepted, after}
 use Rattle.history.specs.Ledger.{held, entriesOf, lastOf}
@@ -118,6 +118,10 @@ refused-did a c r = record {
 }
 
 -- ---- an arrival
+-- a call that is no message echoes nothing
+no-echo : {A : Type 0} (n : ℕ) → _≡_ {A = Option ℕ} none (some n) → A
+no-echo n f = apart (let z : true ≡ false = cc in z)
+
 -- what a call did, by its answer
 abbrev DidBy : Association → Call → Answer → Type 0
 DidBy a c r = Did a c (ofOutcome (r .outcome)) (r .association)
@@ -133,7 +137,7 @@ arrival-did a size =
       last = refl;
       credit = refl;
       funded = (tt, tt);
-      authentic = λ n e f. apart (let z : true ≡ false = cc in z);
+      authentic = λ n e f. no-echo n f;
       traced = λ x. traced-still (statusIn x (a .slots)) true;
     }))
 
@@ -149,7 +153,7 @@ tick-did a time =
       last = refl;
       credit = ageings-held (ageings (a .aged) time) (a .credit);
       funded = ageings-funded (ageings (a .aged) time) (a .credit);
-      authentic = λ n e f. apart (let z : true ≡ false = cc in z);
+      authentic = λ n e f. no-echo n f;
       traced = λ x. traced-expired (statusIn x (a .slots)) (statusIn x (ticked a time .slots)) true (expired-statuses x time (a .slots));
     }))
 
@@ -174,7 +178,7 @@ to-did a size (ToActive n) e =
       last = refl;
       credit = rw active;
       funded = rw active tt;
-      authentic = λ n e f. apart (let z : true ≡ false = cc in z);
+      authentic = λ n e f. no-echo n f;
       traced = λ x. traced-still (statusIn x (a .slots)) true;
     }
 to-did a size (ToUnverified n) e =
@@ -186,7 +190,7 @@ to-did a size (ToUnverified n) e =
       last = refl;
       credit = rw unverified;
       funded = rw unverified (covered-below (a .credit) size q, tt);
-      authentic = λ n e f. apart (let z : true ≡ false = cc in z);
+      authentic = λ n e f. no-echo n f;
       traced = λ x. traced-still (statusIn x (a .slots)) true;
     })
     (λ q. refused-did a (send size) (refusal 15))
@@ -200,22 +204,12 @@ send-did a size =
     (λ e. to-did a size (pathOf (a .preferred) (a .slots)) refl))
 
 -- ---- a message
--- it moves neither the clock nor the credit, and changes nothing where it is refused
-record Still (a : Association) (h : Handled) : Type 0 where
-  refused-same : isAccepted (ofMessage (h .outcome)) ≡ false → h .left ≡ a
-  last : a .aged ≡ h .left .aged
-  credit : a .credit ≡ h .left .credit
-
-message-still : (a : Association) (g : Message) (listed : List ListedLocator) (nonces : List ℕ) → Still a (handleMessage a g listed nonces)
-unfolding afterMove
-message-still a (Refused why) listed nonces = record { refused-same = λ e. refl; last = refl; credit = refl }
-message-still a (Reply e) listed nonces =
-    reply-ends (Still a) a (λ n. record { refused-same = λ e. refl; last = refl; credit = refl }) e
-    (record { refused-same = λ e. apart e; last = refl; credit = refl })
-message-still a (Move m) listed nonces =
-    move-ends (Still a) a (λ n. record { refused-same = λ e. refl; last = refl; credit = refl }) m _ nonces
-    (record { refused-same = λ e. refl; last = refl; credit = refl })
-    (λ q r. record { refused-same = λ e. apart e; last = refl; credit = refl })
+-- a message that is not accepted is refused
+declined-is : (o : MessageOutcome) → isAccepted (ofMessage o) ≡ false → isDeclined o ≡ true
+declined-is Moved e = sym e
+declined-is Replied e = sym e
+declined-is Repeated e = sym e
+declined-is (Declined r) e = refl
 
 message-did : (a : Association) (packet : List ℕ) (authentic : Bool) (nonces : List ℕ) (eight : length nonces ≡ nonceCount) (buffer : List ℕ) →
     Did a (message packet authentic nonces eight buffer) (answers a (message packet authentic nonces eight buffer)) (returned a (message packet authentic nonces eight buffer))
@@ -224,11 +218,11 @@ message-did a packet authentic nonces eight buffer =
     message-ends (λ h. Did a (message packet authentic nonces eight buffer) (ofMessage (h .outcome)) (h .left)) a
     (λ n. refused-did a (message packet authentic nonces eight buffer) (refusal n)) packet authentic nonces (length buffer)
     (λ p r q.
-    let still = message-still a (readingOf packet .message) (readingOf packet .listed) nonces in
+    let left = message-untouched a (readingOf packet .message) (readingOf packet .listed) nonces in
     record {
-      refused-same = still .refused-same;
-      last = still .last;
-      credit = still .credit;
+      refused-same = λ e. left .association (declined-is (handleMessage a (readingOf packet .message) (readingOf packet .listed) nonces .outcome) e);
+      last = left .aged;
+      credit = left .credit;
       funded = tt;
       authentic = λ n e f. q;
       traced = λ x. traced-message x a (readingOf packet .message) (readingOf packet .listed) nonces;

@@ -7,14 +7,13 @@ use Prim.Native.Nat.{ℕ, _+_, _≤_, _<_, zero, suc}
 use lib.Dec.{eqb}
 use lib.ListN.{getD, length}
 use native.Mathlib.Omega.{arith}
-use borrow.Author.Tests.{eqb-true, eq-eqb}
-use Rattle.boolean.proofs.Laws.{and-true-left, and-true-right, or-false-left, or-false-right, apart}
+use Rattle.boolean.proofs.Laws.{eqb-turned, and-true-left, and-true-right, or-false-left, or-false-right, apart}
 use Rattle.octets.specs.Records as records
 use Rattle.address.proofs.Equal.{same-equal}
 use Rattle.address.specs.Rules.{sameAddress}
 use Rattle.address.specs.declared.Address.{Address}
 use Rattle.locator.specs.declared.ListedLocator.{ListedLocator}
-use Rattle.slot.proofs.Settled.{Clear, Lacks}
+use Rattle.slot.proofs.Settled.{Clear, Lacks, clear-turned}
 use Rattle.slot.specs.Clashes.{sameNonce, clashHeld, clash}
 use Rattle.slot.specs.Found.{isDeprecated, holdsHeld, holds, statusHeld, orElse, statusIn, foundAs, isNonce, heldAs, statusOf}
 use Rattle.slot.specs.declared.Holding.{Holding}
@@ -63,70 +62,72 @@ module _ (x : Address) (listed : List ListedLocator) (next : ℕ) (nonces : List
       go true same more = held-status k (s .holding) true (statusIn x ss) (statusIn x (checked listed next nonces (k + 1) ss)) (checkFor x listed (k + 1) ss) more
       go false same more = held-status k (s .holding) false (statusIn x ss) (statusIn x (checked listed next nonces k ss)) (checkFor x listed k ss) same
 
--- a slot that holds the address decides, and else the slots after it
 module _ (x : Address) (listed : List ListedLocator) where
+  -- the first slot that holds an address decides its status and whether it gets a check
+  data First (k : ℕ) (ss : List Slot) : Type 0 where
+    nowhere : statusIn x ss ≡ none → checkFor x listed k ss ≡ none → First k ss
+    first : (l : Locator) (j : ℕ) → x ≡ l .address → statusIn x ss ≡ some (l .status) →
+        checkFor x listed k ss ≡ cond (awaitsHeld listed (Held l)) (some j) none → First k ss
+
+  first-in : (k : ℕ) (ss : List Slot) → First k ss
+  unfolding checkFor statusIn
+  first-in k [] = nowhere refl refl
+  first-in k (s ∷ ss) = held (s .holding) refl (first-in (cond (awaits listed s) (k + 1) k) ss)
+    where
+      passed : statusHeld x (s .holding) ≡ none → holds x s ≡ false → First (cond (awaits listed s) (k + 1) k) ss → First k (s ∷ ss)
+      passed u h (nowhere p q) = nowhere (rw u p) (rw h q)
+      passed u h (first l j e p q) = first l j e (rw u p) (rw h q)
+
+      here : (l : Locator) (b : Bool) → s .holding ≡ Held l → sameAddress x (l .address) ≡ b → First (cond (awaits listed s) (k + 1) k) ss → First k (s ∷ ss)
+      here l true e same rest = first l k (same-equal x (l .address) same) (rw (e, same)) (rw (e, same))
+      here l false e same rest = passed (rw (e, same)) (rw (e, same)) rest
+
+      held : (h : Holding) → s .holding ≡ h → First (cond (awaits listed s) (k + 1) k) ss → First k (s ∷ ss)
+      held Empty e rest = passed (rw e) (rw e) rest
+      held (Held l) e rest = here l (sameAddress x (l .address)) e refl rest
+
   -- what gets a check was DEPRECATED, and is listed
   pub record Awaited (ss : List Slot) : Type 0 where
     pub deprecated : statusIn x ss ≡ some Deprecated
     pub is-listed : isListed x listed ≡ true
 
+  deprecated-is : (t : Status) → isDeprecated t ≡ true → t ≡ Deprecated
+  deprecated-is (Unverified c) q = cc
+  deprecated-is Active q = cc
+  deprecated-is Deprecated q = refl
+
   pub check-awaited : (k j : ℕ) (ss : List Slot) → checkFor x listed k ss ≡ some j → Awaited ss
-  unfolding checkFor statusIn
-  check-awaited k j [] p = let z : _≡_ {A = ℕ} 0 1 = cc in absurd (omega arith)
-  check-awaited k j (s ∷ ss) p = go (s .holding) refl (check-awaited (cond (awaits listed s) (k + 1) k) j ss) p
+  check-awaited k j ss p = go (first-in k ss)
     where
-      deprecated-is : (t : Status) → isDeprecated t ≡ true → t ≡ Deprecated
-      deprecated-is (Unverified c) q = cc
-      deprecated-is Active q = cc
-      deprecated-is Deprecated q = refl
+      given : (b : Bool) (i : ℕ) → cond b (some i) none ≡ some j → b ≡ true
+      given true i q = refl
+      given false i q = cc
 
-      taken : (b : Bool) → cond b (some k) none ≡ some j → b ≡ true
-      taken true q = refl
-      taken false q = cc
-
-      here : (l : Locator) (c : Bool) → s .holding ≡ Held l → sameAddress x (l .address) ≡ c →
-          (checkFor x listed (cond (awaits listed s) (k + 1) k) ss ≡ some j → Awaited ss) →
-          cond c (cond (awaits listed s) (some k) none) (checkFor x listed (cond (awaits listed s) (k + 1) k) ss) ≡ some j → Awaited (s ∷ ss)
-      here l true e same rest p =
-          let both : (isDeprecated (l .status) && isListed (l .address) listed) ≡ true = sym (ap (awaitsHeld listed) e) ∙ taken (awaits listed s) p in
+      go : First k ss → Awaited ss
+      go (nowhere u q) = let z : _≡_ {A = ℕ} 0 1 = cc in absurd (omega arith)
+      go (first l i e u q) =
+          let both = given (awaitsHeld listed (Held l)) i (sym q ∙ p) in
           record {
-            deprecated = rw (e, same) (ap some (deprecated-is (l .status) (and-true-left (isDeprecated (l .status)) (isListed (l .address) listed) both)));
-            is-listed = rw (same-equal x (l .address) same) (and-true-right (isDeprecated (l .status)) (isListed (l .address) listed) both);
+            deprecated = u ∙ ap some (deprecated-is (l .status) (and-true-left (isDeprecated (l .status)) (isListed (l .address) listed) both));
+            is-listed = rw e (and-true-right (isDeprecated (l .status)) (isListed (l .address) listed) both);
           }
-      here l false e same rest p = let r = rest p in record { deprecated = rw (e, same) (r .deprecated); is-listed = r .is-listed }
-
-      go : (h : Holding) → s .holding ≡ h → (checkFor x listed (cond (awaits listed s) (k + 1) k) ss ≡ some j → Awaited ss) →
-          cond (holdsHeld x h) (cond (awaits listed s) (some k) none) (checkFor x listed (cond (awaits listed s) (k + 1) k) ss) ≡ some j → Awaited (s ∷ ss)
-      go Empty e rest p = let r = rest p in record { deprecated = rw e (r .deprecated); is-listed = r .is-listed }
-      go (Held l) e rest p = here l (sameAddress x (l .address)) e refl rest p
 
   -- a listed address that gets none was not DEPRECATED
   pub check-none : (k : ℕ) (ss : List Slot) → isListed x listed ≡ true → checkFor x listed k ss ≡ none → live (statusIn x ss) ≡ statusIn x ss
-  unfolding checkFor statusIn
-  check-none k [] l p = refl
-  check-none k (s ∷ ss) l p = go (s .holding) refl (check-none (cond (awaits listed s) (k + 1) k) ss l) p
+  check-none k ss l p = go (first-in k ss)
     where
-      here : (m : Locator) (c : Bool) → sameAddress x (m .address) ≡ c →
-          (checkFor x listed (cond (awaits listed s) (k + 1) k) ss ≡ none → live (statusIn x ss) ≡ statusIn x ss) → awaits listed s ≡ awaitsHeld listed (Held m) →
-          cond c (cond (awaits listed s) (some k) none) (checkFor x listed (cond (awaits listed s) (k + 1) k) ss) ≡ none →
-          live (orElse (cond c (some (m .status)) none) (statusIn x ss)) ≡ orElse (cond c (some (m .status)) none) (statusIn x ss)
-      here m true same rest e p = status (m .status) (rw (← same-equal x (m .address) same, l) at (sym e ∙ none-taken (awaits listed s) p))
-        where
-          none-taken : (b : Bool) → cond b (some k) none ≡ none → b ≡ false
-          none-taken true q = cc
-          none-taken false q = refl
+      not-given : (b : Bool) (i : ℕ) → cond b (some i) none ≡ none → b ≡ false
+      not-given true i q = cc
+      not-given false i q = refl
 
-          status : (t : Status) → (isDeprecated t && true) ≡ false → live (some t) ≡ some t
-          status (Unverified c) q = refl
-          status Active q = refl
-          status Deprecated q = cc
-      here m false same rest e p = rest p
+      status : (t : Status) → (isDeprecated t && true) ≡ false → live (some t) ≡ some t
+      status (Unverified c) q = refl
+      status Active q = refl
+      status Deprecated q = cc
 
-      go : (h : Holding) → s .holding ≡ h → (checkFor x listed (cond (awaits listed s) (k + 1) k) ss ≡ none → live (statusIn x ss) ≡ statusIn x ss) →
-          cond (holdsHeld x h) (cond (awaits listed s) (some k) none) (checkFor x listed (cond (awaits listed s) (k + 1) k) ss) ≡ none →
-          live (orElse (statusHeld x (s .holding)) (statusIn x ss)) ≡ orElse (statusHeld x (s .holding)) (statusIn x ss)
-      go Empty e rest p = rw e (rest p)
-      go (Held m) e rest p = rw e (here m (sameAddress x (m .address)) refl rest (ap (awaitsHeld listed) e) p)
+      go : First k ss → live (statusIn x ss) ≡ statusIn x ss
+      go (nowhere u q) = rw u
+      go (first m i e u q) = rw u (status (m .status) (rw (← e, l) at (not-given (awaitsHeld listed (Held m)) i (sym q ∙ p))))
 
 -- ---- how many
 module _ (listed : List ListedLocator) (next : ℕ) (nonces : List ℕ) where
@@ -182,46 +183,23 @@ offered nonces ss p = record {
 }
 
 -- ---- slots with new checks do not clash
-eqb-turned : (m n : ℕ) → eqb m n ≡ false → eqb n m ≡ false
-eqb-turned m n p = go (eqb n m) refl
-  where
-    go : (b : Bool) → eqb n m ≡ b → eqb n m ≡ false
-    go true q = let e : m ≡ n = sym (eqb-true n m q) in let z : true ≡ false = sym (eq-eqb m n e) ∙ p in q ∙ z
-    go false q = q
-
 module _ (next : ℕ) (nonces : List ℕ) where
-  nonce-after : (s : Status) (k : ℕ) → isNonce (getD nonces k 0) s ≡ false → sameNonce s (checkedBy next nonces k) ≡ false
-  nonce-after (Unverified c) k p = eqb-turned (getD nonces k 0) (c .nonce) p
-  nonce-after Active k p = refl
-  nonce-after Deprecated k p = refl
+  nonce-clear : (s : Status) (k : ℕ) → isNonce (getD nonces k 0) s ≡ false → sameNonce (checkedBy next nonces k) s ≡ false
+  nonce-clear (Unverified c) k p = p
+  nonce-clear Active k p = refl
+  nonce-clear Deprecated k p = refl
 
-  nonce-before : (s : Status) (k : ℕ) → isNonce (getD nonces k 0) s ≡ false → sameNonce (checkedBy next nonces k) s ≡ false
-  nonce-before (Unverified c) k p = p
-  nonce-before Active k p = refl
-  nonce-before Deprecated k p = refl
-
-  -- a slot with a check after a slot that has not its nonce, and before one
-  clear-after : (h s : Slot) (k : ℕ) → Clear h s → Lacks (getD nonces k 0) h → Clear h (withCheck next nonces k s)
+  -- a slot with a check does not clash with one that has not its nonce
+  check-clear : (h s : Slot) (k : ℕ) → Clear s h → Lacks (getD nonces k 0) h → Clear (withCheck next nonces k s) h
   unfolding clash
-  clear-after h s k p q = go (h .holding) (s .holding) p q
-    where
-      go : (h s : Holding) → clashHeld h s ≡ false → foundAs (isNonce (getD nonces k 0)) (statusOf h) ≡ false →
-          clashHeld h (withCheck next nonces k (record { holding = s }) .holding) ≡ false
-      go Empty s p q = refl
-      go (Held l) Empty p q = refl
-      go (Held l) (Held m) p q =
-          rw (or-false-left (sameAddress (l .address) (m .address)) (sameNonce (l .status) (m .status)) p, nonce-after (l .status) k q)
-
-  clear-before : (h s : Slot) (k : ℕ) → Clear s h → Lacks (getD nonces k 0) h → Clear (withCheck next nonces k s) h
-  unfolding clash
-  clear-before h s k p q = go (h .holding) (s .holding) p q
+  check-clear h s k p q = go (h .holding) (s .holding) p q
     where
       go : (h s : Holding) → clashHeld s h ≡ false → foundAs (isNonce (getD nonces k 0)) (statusOf h) ≡ false →
           clashHeld (withCheck next nonces k (record { holding = s }) .holding) h ≡ false
       go h Empty p q = refl
       go Empty (Held m) p q = refl
       go (Held l) (Held m) p q =
-          rw (or-false-left (sameAddress (m .address) (l .address)) (sameNonce (m .status) (l .status)) p, nonce-before (l .status) k q)
+          rw (or-false-left (sameAddress (m .address) (l .address)) (sameNonce (m .status) (l .status)) p, nonce-clear (l .status) k q)
 
   -- a slot with check k has no other check's nonce
   other-nonce : (s : Slot) (k j : ℕ) → eqb (getD nonces j 0) (getD nonces k 0) ≡ false → Lacks (getD nonces j 0) (withCheck next nonces k s)
@@ -245,7 +223,7 @@ module _ (next : ℕ) (nonces : List ℕ) where
             All (Clear h) (cond b (withCheck next nonces k s ∷ checked listed next nonces (k + 1) ss) (s ∷ checked listed next nonces k ss))
         go true e same more =
             let counted : checkCount listed (s ∷ ss) ≡ 1 + checkCount listed ss = rw e in
-            (clear-after h s k (p .0) (q k (omega arith) (omega arith)), more (λ j l m. q j (omega arith) (omega arith)))
+            (clear-turned (withCheck next nonces k s) h (check-clear h s k (clear-turned h s (p .0)) (q k (omega arith) (omega arith))), more (λ j l m. q j (omega arith) (omega arith)))
         go false e same more =
             let counted : checkCount listed (s ∷ ss) ≡ checkCount listed ss = rw e in (p .0, same (λ j l m. q j l (omega arith)))
 
@@ -265,7 +243,7 @@ module _ (next : ℕ) (nonces : List ℕ) where
         go true e same more =
             let counted : checkCount listed (s ∷ ss) ≡ 1 + checkCount listed ss = rw e in (
               rest-clear (withCheck next nonces k s) (k + 1) ss
-                  (all-both (Clear s) (Lacks (getD nonces k 0)) (Clear (withCheck next nonces k s)) (λ t u v. clear-before t s k u v) ss (p .0)
+                  (all-both (Clear s) (Lacks (getD nonces k 0)) (Clear (withCheck next nonces k s)) (λ t u v. check-clear t s k u v) ss (p .0)
                   (tail .fresh k (omega arith)))
                   (λ j l m. other-nonce s k j (eqb-turned (getD nonces k 0) (getD nonces j 0) (o .apart k j (omega arith) (omega arith)))),
               more (omega arith),

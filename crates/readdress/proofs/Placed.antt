@@ -6,12 +6,12 @@ use mathlib.Core.List.{List, [], _∷_, map}
 use Prim.Native.Nat.{ℕ, zero, suc}
 use lib.ListN.{set, length, length-set}
 use Rattle.boolean.proofs.Laws.{cond-all, and-true-right, apart}
-use Rattle.address.proofs.Equal.{same-equal, same-turned}
+use Rattle.address.proofs.Equal.{same-equal}
 use Rattle.address.specs.Rules.{sameAddress}
 use Rattle.address.specs.declared.Address.{Address}
 use Rattle.packet.specs.declared.EchoResponse.{EchoResponse}
 use Rattle.locator.specs.declared.ListedLocator.{ListedLocator}
-use Rattle.slot.proofs.Settled.{Clear, Lacks, checkless-right}
+use Rattle.slot.proofs.Settled.{Clear, Lacks, clear-turned}
 use Rattle.slot.specs.Clashes.{clashHeld, clash}
 use Rattle.slot.specs.Found.{onHeld, onLocator, isDeprecated, holdsHeld, holds, statusHeld, orElse, statusIn, slotAt}
 use Rattle.slot.specs.declared.Holding.{Holding}
@@ -35,18 +35,10 @@ use Rattle.readdress.proofs.Live.{live}
 use Rattle.readdress.proofs.Settled.{settledStatus, settled-status}
 
 -- ---- placing in general
--- a slot that does not hold an address does not clash with one that takes it without a check
-entered-after : (time : ℕ) (e : ListedLocator) (s : Slot) → holds (e .address) s ≡ false → Clear s (entered time e)
+-- a slot that takes an address without a check does not clash with one that does not hold the address
+pub entered-clear : (time : ℕ) (e : ListedLocator) (s : Slot) → holds (e .address) s ≡ false → Clear (entered time e) s
 unfolding clash
-entered-after time e s p = go (s .holding) p
-  where
-    go : (h : Holding) → holdsHeld (e .address) h ≡ false → clashHeld h (entered time e .holding) ≡ false
-    go Empty p = refl
-    go (Held l) p = rw (same-turned (e .address) (l .address) false p, checkless-right (l .status) Deprecated refl)
-
-pub entered-before : (time : ℕ) (e : ListedLocator) (s : Slot) → holds (e .address) s ≡ false → Clear (entered time e) s
-unfolding clash
-entered-before time e s p = go (s .holding) p
+entered-clear time e s p = go (s .holding) p
   where
     go : (h : Holding) → holdsHeld (e .address) h ≡ false → clashHeld (entered time e .holding) h ≡ false
     go Empty p = refl
@@ -76,8 +68,8 @@ module _ (time : ℕ) (listed : List ListedLocator) where
   take-apart e ss n h q =
       let away = none-all (holds (e .address)) ss h in
       pairs-set Clear ss n (entered time e) q
-      (all-imply (λ s. holds (e .address) s ≡ false) (λ s. Clear s (entered time e)) (entered-after time e) ss away)
-      (all-imply (λ s. holds (e .address) s ≡ false) (Clear (entered time e)) (entered-before time e) ss away)
+      (all-imply (λ s. holds (e .address) s ≡ false) (λ s. Clear s (entered time e)) (λ s h. clear-turned (entered time e) s (entered-clear time e s h)) ss away)
+      (all-imply (λ s. holds (e .address) s ≡ false) (Clear (entered time e)) (entered-clear time e) ss away)
 
   pub placed-apart : (es : List ListedLocator) (p : Placement) → Pairs Clear (p .slots) → Pairs Clear (placeAll time listed es p .slots)
   placed-apart es p q = entries-keep (λ r. Pairs Clear (r .slots)) (λ e r s h n l. take-apart e (r .slots) n h s) es p q

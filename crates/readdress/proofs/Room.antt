@@ -33,7 +33,7 @@ use Rattle.readdress.specs.Echoes.{verifyAll}
 use Rattle.readdress.specs.Moves.{settled}
 use Rattle.readdress.specs.Steps.{deprecate, rebind, renewAll, isListed, retire, retireAll, freeHeld, isFree, entered, placeAt, place, isHeld, placeOther, placeAll}
 use Rattle.readdress.specs.declared.Placement.{Placement}
-use Rattle.readdress.proofs.Placed.{entered-before, entry-keeps, entries-keep, take-apart, free-other}
+use Rattle.readdress.proofs.Placed.{entered-clear, entry-keeps, entries-keep, take-apart, free-other}
 
 -- ---- more slots than listed addresses cannot all hold one
 -- a set without its first entry for an address
@@ -134,7 +134,7 @@ module _ (time : ℕ) (listed : List ListedLocator) where
       let all-listed =
       all-both (λ s. isFree listed s ≡ false) Sorted (HoldsListed listed) (λ s u v. not-false (listedHeld listed (s .holding)) (sym v ∙ u)) (p .slots)
       taken (r .sorted) in
-      let away = all-imply (λ s. holds (e .address) s ≡ false) (Clear (entered time e)) (entered-before time e) (p .slots) (none-all (holds (e .address)) (p .slots) h) in
+      let away = all-imply (λ s. holds (e .address) s ≡ false) (Clear (entered time e)) (entered-clear time e) (p .slots) (none-all (holds (e .address)) (p .slots) h) in
       let most = held-most (entered time e ∷ p .slots) listed (away, r .apart) (l, all-listed) in
       let whole = r .whole in
       omega arith
@@ -218,5 +218,8 @@ module _ (time : ℕ) (listed : List ListedLocator) where
 pub each-listed : (es : List ListedLocator) → All (λ e. isListed (e .address) es ≡ true) es
 unfolding All records.some
 each-listed [] = tt
-each-listed (e ∷ es) =
-    (rw (same-self (e .address)), all-imply (λ f. isListed (f .address) es ≡ true) (λ f. isListed (f .address) (e ∷ es) ≡ true) (λ f p. or-true (sameAddress (f .address) (e .address)) (isListed (f .address) es) p) es (each-listed es))
+each-listed (e ∷ es) = (
+  rw (same-self (e .address)),
+  all-imply (λ f. isListed (f .address) es ≡ true) (λ f. isListed (f .address) (e ∷ es) ≡ true)
+      (λ f p. or-true (sameAddress (f .address) (e .address)) (isListed (f .address) es) p) es (each-listed es),
+)

@@ -1,5 +1,5 @@
 -- Steps 2 to 6. A set is its locators in listed order.
-use Prim.Native.Nat.{ℕ, _+_}
+use Prim.Native.Nat.{ℕ}
 use mathlib.Core.Bool.{Bool, true, not, cond, _&&_}
 use mathlib.Core.Option.{Option, none, some}
 use mathlib.Core.List.{List, [], _∷_, map}
@@ -15,6 +15,7 @@ use Rattle.slot.specs.declared.Holding.{Holding}
 use Rattle.slot.specs.declared.Holding.the-variants.{Empty, Held}
 use Rattle.slot.specs.declared.Slot.{Slot}
 use Rattle.slot.specs.Found.{slotOf, withStatus, onLocator, holds, isDeprecated}
+use Rattle.slot.specs.Expiry.{expiryAt}
 use Rattle.path.specs.declared.Preference.{Preference}
 use Rattle.path.specs.declared.Preference.the-variants.{NoPreference, Prefers}
 use Rattle.path.specs.declared.Choice.{Choice}
@@ -40,7 +41,7 @@ entryFor x (e ∷ es) = cond (sameAddress x (e .address)) (some e) (entryFor x e
 -- it "takes the new traffic type and expiry = stored time + lifetime"
 abbrev pub renewBy : (time : ℕ) → Option ListedLocator → Locator → Locator
 renewBy time none l = l
-renewBy time (some e) l = record { address = l .address; traffic = e .traffic; expiry = time + e .lifetime; status = l .status }
+renewBy time (some e) l = record { address = l .address; traffic = e .traffic; expiry = expiryAt time (e .lifetime); status = l .status }
 
 -- a locator by the set's entry for its address
 abbrev pub renew : (time : ℕ) → List ListedLocator → Locator → Locator
@@ -76,7 +77,7 @@ isFree listed s = freeHeld listed (s .holding)
 
 -- a slot with a listed address, which awaits its check
 abbrev pub entered : (time : ℕ) → ListedLocator → Slot
-entered time e = slotOf (record { address = e .address; traffic = e .traffic; expiry = time + e .lifetime; status = Deprecated })
+entered time e = slotOf (record { address = e .address; traffic = e .traffic; expiry = expiryAt time (e .lifetime); status = Deprecated })
 
 -- "A preference for a refilled slot is dropped."
 abbrev pub dropped : (n : ℕ) → Preference → Preference

@@ -4,8 +4,9 @@ use mathlib.Core.Path.{_≡_, refl}
 use mathlib.Core.Bool.{false}
 use mathlib.Core.Logic.{_⊎_, inl, inr}
 use Prim.Native.Nat.{ℕ}
-use Rattle.boolean.proofs.Laws.{or-false-left, or-false-right}
+use Rattle.boolean.proofs.Laws.{eqb-turned, or-false-left, or-false-right}
 use Rattle.address.specs.Rules.{sameAddress}
+use Rattle.address.proofs.Equal.{same-turned}
 use Rattle.slot.specs.declared.Status.{Status}
 use Rattle.slot.specs.declared.Status.the-variants.{Unverified, Active, Deprecated}
 use Rattle.slot.specs.declared.Locator.{Locator}
@@ -28,17 +29,36 @@ abbrev pub Lacks : (nonce : ℕ) → Slot → Type 0
 Lacks nonce s = heldAs (isNonce nonce) s ≡ false
 
 -- a status without a check shares no nonce
-pub checkless-left : (s t : Status) → isUnverified s ≡ false → sameNonce s t ≡ false
+checkless-left : (s t : Status) → isUnverified s ≡ false → sameNonce s t ≡ false
 checkless-left (Unverified k) t p = cc
 checkless-left Active t p = refl
 checkless-left Deprecated t p = refl
 
-pub checkless-right : (s t : Status) → isUnverified t ≡ false → sameNonce s t ≡ false
-checkless-right (Unverified k) (Unverified l) p = cc
-checkless-right (Unverified k) Active p = refl
-checkless-right (Unverified k) Deprecated p = refl
-checkless-right Active t p = refl
-checkless-right Deprecated t p = refl
+-- what two statuses and two slots share they share either way round
+nonce-turned : (s t : Status) → sameNonce s t ≡ false → sameNonce t s ≡ false
+nonce-turned (Unverified k) (Unverified l) p = eqb-turned (k .nonce) (l .nonce) p
+nonce-turned (Unverified k) Active p = refl
+nonce-turned (Unverified k) Deprecated p = refl
+nonce-turned Active (Unverified l) p = refl
+nonce-turned Active Active p = refl
+nonce-turned Active Deprecated p = refl
+nonce-turned Deprecated (Unverified l) p = refl
+nonce-turned Deprecated Active p = refl
+nonce-turned Deprecated Deprecated p = refl
+
+pub clear-turned : (x y : Slot) → Clear x y → Clear y x
+unfolding clash
+clear-turned x y p = go (x .holding) (y .holding) p
+  where
+    go : (h k : Holding) → clashHeld h k ≡ false → clashHeld k h ≡ false
+    go Empty Empty p = refl
+    go Empty (Held m) p = refl
+    go (Held l) Empty p = refl
+    go (Held l) (Held m) p =
+        rw (
+          same-turned (l .address) (m .address) false (or-false-left (sameAddress (l .address) (m .address)) (sameNonce (l .status) (m .status)) p),
+          nonce-turned (l .status) (m .status) (or-false-right (sameAddress (l .address) (m .address)) (sameNonce (l .status) (m .status)) p),
+        )
 
 checkless-nonce : (n : ℕ) (s : Status) → isUnverified s ≡ false → isNonce n s ≡ false
 checkless-nonce n (Unverified k) p = cc
@@ -52,7 +72,7 @@ module _ (change : Locator → Locator) (settles : Settles change) where
       go : (change l .status ≡ l .status) ⊎ (isUnverified (change l .status) ≡ false) → (change m .status ≡ m .status) ⊎ (isUnverified (change m .status) ≡ false) →
           sameNonce (change l .status) (change m .status) ≡ false
       go (inl e) (inl f) = rw (e, f) p
-      go (inl e) (inr f) = checkless-right (change l .status) (change m .status) f
+      go (inl e) (inr f) = nonce-turned (change m .status) (change l .status) (checkless-left (change m .status) (change l .status) f)
       go (inr e) f = checkless-left (change l .status) (change m .status) e
 
   held-apart : (h k : Holding) → clashHeld h k ≡ false → clashHeld (onHeld change h) (onHeld change k) ≡ false

@@ -1,5 +1,5 @@
--- "Locators with time at or past expiry turn DEPRECATED."
-use Prim.Native.Nat.{ℕ}
+-- The expiry of a locator: "Locators with time at or past expiry turn DEPRECATED."
+use Prim.Native.Nat.{ℕ, _+_}
 use mathlib.Core.Bool.{cond}
 use lib.Dec.{leb}
 use Rattle.slot.specs.Found.{withStatus, onHeld, onLocator}
@@ -7,6 +7,10 @@ use Rattle.slot.specs.declared.Status.the-variants.{Deprecated}
 use Rattle.slot.specs.declared.Locator.{Locator}
 use Rattle.slot.specs.declared.Holding.{Holding}
 use Rattle.slot.specs.declared.Slot.{Slot}
+
+-- "expiry = stored time + lifetime": of a locator that is started or listed
+abbrev pub expiryAt : (time lifetime : ℕ) → ℕ
+expiryAt time lifetime = time + lifetime
 
 -- a locator at a time
 abbrev pub expireLocator : (time : ℕ) → Locator → Locator

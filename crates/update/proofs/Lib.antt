@@ -2,3 +2,4 @@ pub mod Cases
 pub mod Kept
 pub mod Listed
 pub mod Buffers
+pub mod Untouched

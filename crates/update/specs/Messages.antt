@@ -17,6 +17,7 @@ use Rattle.readdress.specs.declared.Placement.{Placement}
 use Rattle.readdress.specs.Echoes.{verifyAll, refusal8}
 use Rattle.readdress.specs.Checks.{refusal10}
 use Rattle.readdress.specs.Moves.{placed, newChecks, newSlots, newPreference}
+use Rattle.association.specs.declared.PeerId.{PeerId}
 use Rattle.association.specs.declared.PeerId.the-variants.{Highest}
 use Rattle.association.specs.declared.Association.{Association}
 use Rattle.association.specs.Form.{refusal0}
@@ -53,16 +54,23 @@ placement a m set = placed (a .time) (differs a m) (m .echo) set (a .preferred) 
 abbrev pub checksOf : Association → MoveFields → (set : List ListedLocator) → ℕ
 checksOf a m set = newChecks set (placement a m set)
 
--- steps 1 to 7: NEW SPI "becomes the outbound SPI", "The inbound SPI stays", and "The peer's Update ID is stored". The own Update IDs that checks took
--- are used up
+-- step 2: NEW SPI "becomes the outbound SPI"
+abbrev pub newOutbound : MoveFields → ℕ
+newOutbound m = m .new
+
+-- step 7: "The peer's Update ID is stored."
+abbrev pub newPeer : MoveFields → PeerId
+newPeer m = Highest (m .id)
+
+-- steps 1 to 7: "The inbound SPI stays", and the own Update IDs that checks took are used up
 unfoldable pub afterMove : Association → MoveFields → (set : List ListedLocator) → (nonces : List ℕ) → Association
 afterMove a m set nonces = record {
-  outbound = m .new;
+  outbound = newOutbound m;
   inbound = a .inbound;
   time = a .time;
   aged = a .aged;
   credit = a .credit;
-  peer = Highest (m .id);
+  peer = newPeer m;
   next = a .next + checksOf a m set;
   preferred = newPreference set (placement a m set);
   slots = newSlots set (a .next) nonces (placement a m set);
