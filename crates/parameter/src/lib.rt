@@ -24,9 +24,9 @@ pub const HIP_MAC: usize = 61505;
 pub const HIP_SIGNATURE: usize = 61697;
 
 // The lengths L that two types must have, and the unit of an ACK's.
-const ESP_INFO_LENGTH: usize = 12;
+pub const ESP_INFO_LENGTH: usize = 12;
 
-const SEQ_LENGTH: usize = 4;
+pub const SEQ_LENGTH: usize = 4;
 
 const ACK_UNIT: usize = 4;
 

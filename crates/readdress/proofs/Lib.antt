@@ -1,3 +1,4 @@
+pub mod Sets
 pub mod Live
 pub mod Settled
 pub mod Placed

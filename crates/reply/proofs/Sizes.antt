@@ -4,17 +4,30 @@ use mathlib.Core.List.{List}
 use Prim.Native.Nat.{ℕ, zero, suc, _+_, _*_, _≤_}
 use lib.ListN.{length, getD, length-append, length-drop}
 use native.Mathlib.Omega.{arith}
+use Rattle.octets.specs.Written.{bytesOf}
 use Rattle.octets.proofs.Sizes.{bytes-length}
+use Rattle.parameter.specs.Types.{ack}
+use Rattle.parameter.specs.Written.{parameterBytes}
 use Rattle.parameter.proofs.Sizes.{parameter-length}
-use Rattle.reply.specs.Replies.{checkSize, ackSize, ackBytes, checkBytes, checksBytes, moveBytes, moveSize, overwritten}
+use Rattle.reply.specs.Replies.{checkSize, ackSize, espInfoBytes, ackBytes, echoRequestBytes, checkBytes, checksBytes, moveBytes, moveSize, overwritten}
+
+-- SEQ or ACK
+pub number-length : (kind value : ℕ) → length (parameterBytes kind (bytesOf 4 value)) ≡ ackSize
+number-length kind value = simp (parameter-length, bytes-length)
+
+pub esp-info-length : (inbound : ℕ) → length (espInfoBytes inbound) ≡ 16
+esp-info-length inbound = simp (parameter-length, length-append, bytes-length)
+
+pub echo-request-length : (nonce : ℕ) → length (echoRequestBytes nonce) ≡ 16
+echo-request-length nonce = simp (parameter-length, bytes-length)
 
 pub ack-length : (peer : ℕ) → length (ackBytes peer) ≡ ackSize
-ack-length peer = simp (parameter-length, bytes-length)
+ack-length peer = number-length ack peer
 
 pub check-length : (inbound peer id nonce : ℕ) → length (checkBytes inbound peer id nonce) ≡ checkSize
 check-length inbound peer id nonce = simp (length-append, parameter-length, bytes-length)
 
-checks-length : (inbound peer next : ℕ) (nonces : List ℕ) (k count : ℕ) → length (checksBytes inbound peer next nonces k count) ≡ checkSize * count
+pub checks-length : (inbound peer next : ℕ) (nonces : List ℕ) (k count : ℕ) → length (checksBytes inbound peer next nonces k count) ≡ checkSize * count
 unfolding checksBytes
 checks-length inbound peer next nonces k zero = refl
 checks-length inbound peer next nonces k (suc count) =

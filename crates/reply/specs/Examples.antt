@@ -4,7 +4,7 @@ use mathlib.Core.List.{[], _∷_, _++_}
 use lib.ListN.{replicate}
 use Rattle.octets.specs.Written.{bytesOf}
 use Rattle.parameter.specs.Written.{parameterBytes}
-use Rattle.reply.specs.Replies.{checksBytes, moveBytes, overwritten}
+use Rattle.reply.specs.Replies.{ackBytes, checksBytes, moveBytes, fitted, overwritten}
 
 -- "Peer ID 7, own ID 3, inbound SPI 0x1001, nonce 0102030405060708, one check, whole reply in hex"
 one-check : moveBytes 0x1001 7 3 (0x0102030405060708 ∷ []) 1
@@ -25,3 +25,12 @@ two-checks = refl
 ack-alone : overwritten (moveBytes 0x1001 7 3 [] 0) (replicate 9 0xff) ≡ 1 ∷ 0xc1 ∷ 0 ∷ 4 ∷ 0 ∷ 0 ∷ 0 ∷ 7 ∷ 0xff ∷ []
 unfolding moveBytes parameterBytes bytesOf
 ack-alone = refl
+
+-- eight bytes hold an ACK, and seven take nothing of it
+ack-fits : fitted 8 (ackBytes 7) ≡ ackBytes 7
+unfolding parameterBytes bytesOf
+ack-fits = refl
+
+ack-too-long : fitted 7 (ackBytes 7) ≡ []
+unfolding parameterBytes bytesOf
+ack-too-long = refl

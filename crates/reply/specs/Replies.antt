@@ -1,6 +1,8 @@
 -- The bytes of a reply, and what the lent buffer holds after it.
 use Prim.Native.Nat.{ℕ, zero, suc, _+_, _*_}
+use mathlib.Core.Bool.{cond}
 use mathlib.Core.List.{List, [], _++_}
+use lib.Dec.{ltb}
 use lib.ListN.{length, getD, drop}
 use Rattle.octets.specs.Written.{bytesOf}
 use Rattle.parameter.specs.Types.{espInfo, seq, ack, echoRequestSigned, nonceSize}
@@ -49,6 +51,10 @@ moveBytes inbound peer next nonces (suc checks) = checksBytes inbound peer next 
 abbrev pub moveSize : (checks : ℕ) → ℕ
 moveSize zero = ackSize
 moveSize (suc checks) = checkSize * suc checks
+
+-- what a buffer of this length takes of a reply: all of it, or nothing where it does not fit
+abbrev pub fitted : (room : ℕ) → (reply : List ℕ) → List ℕ
+fitted room reply = cond (ltb room (length reply)) [] reply
 
 -- a buffer after a reply: the reply, and "Bytes past the reply are untouched."
 abbrev pub overwritten : (reply buffer : List ℕ) → List ℕ

@@ -1,5 +1,5 @@
 -- What the definitions say of a slot whose holding is known. Assumes nothing.
-use mathlib.Core.Path.{_≡_, ap}
+use mathlib.Core.Path.{_≡_, sym, ap, _∙_}
 use mathlib.Core.Bool.{Bool, false, _||_}
 use Prim.Native.Nat.{ℕ, _≤_, _<_}
 use lib.Dec.{eqb}
@@ -12,9 +12,9 @@ use Rattle.slot.specs.declared.Locator.{Locator}
 use Rattle.slot.specs.declared.Holding.{Holding}
 use Rattle.slot.specs.declared.Holding.the-variants.{Empty, Held}
 use Rattle.slot.specs.declared.Slot.{Slot}
-use Rattle.slot.specs.Found.{slotOf, withStatus}
+use Rattle.slot.specs.Found.{slotOf, withStatus, onHeld, onLocator}
 use Rattle.slot.specs.Clashes.{sameNonce, clash}
-use Rattle.slot.specs.Expiry.{expireSlot}
+use Rattle.slot.specs.Expiry.{expireLocator, expireSlot}
 
 pub nonces : (x y : Status) (k l : Check) → x ≡ Unverified k → y ≡ Unverified l → eqb (k .nonce) (l .nonce) ≡ sameNonce x y
 nonces x y k l p q = simp (p, q)
@@ -36,11 +36,18 @@ clash-held x y l m a b r p q u v w = rw (w, u, v, p, q)
 abbrev slotWith : Holding → Slot
 slotWith h = record { holding = h }
 
-pub expire-empty : (t : ℕ) (s : Slot) → s .holding ≡ Empty → s ≡ expireSlot t s
-expire-empty t s p = ap slotWith (simp p)
+-- a change of the locator that a slot holds, whatever the change
+pub on-empty : (change : Locator → Locator) (s : Slot) → s .holding ≡ Empty → s ≡ onLocator change s
+on-empty change s p = ap slotWith (simp p)
+
+pub on-held : (change : Locator → Locator) (s : Slot) (l m : Locator) → s .holding ≡ Held l → m ≡ change l → slotOf m ≡ onLocator change s
+on-held change s l m p q = simp (p, q)
+
+pub on-kept : (change : Locator → Locator) (s : Slot) (l : Locator) → s .holding ≡ Held l → l ≡ change l → s ≡ onLocator change s
+on-kept change s l p q = ap slotWith (p ∙ ap Held q ∙ ap (onHeld change) (sym p))
 
 pub expire-early : (t : ℕ) (s : Slot) (l : Locator) → s .holding ≡ Held l → t < l .expiry → s ≡ expireSlot t s
-expire-early t s l p h = ap slotWith (simp (p, lt-leb (l .expiry) t h))
+expire-early t s l p h = on-kept (expireLocator t) s l p (rw (lt-leb (l .expiry) t h))
 
 pub expire-late : (t : ℕ) (s : Slot) (l : Locator) → s .holding ≡ Held l → l .expiry ≤ t → slotOf (withStatus l Deprecated) ≡ expireSlot t s
 expire-late t s l p h = simp (p, le-leb (l .expiry) t h)

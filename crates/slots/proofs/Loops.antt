@@ -32,7 +32,7 @@ module _ {A R : Type 0} (over : ℕ → List A → R) (test : A → List A → B
     end = λ xs n j whole e h p. rw (p, drop-of-length-le xs {i = j} (omega arith), stops);
   }
 
-or-cond : (a b : Bool) → (a || b) ≡ cond a true b
+pub or-cond : (a b : Bool) → (a || b) ≡ cond a true b
 or-cond true b = refl
 or-cond false b = refl
 

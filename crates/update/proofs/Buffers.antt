@@ -20,7 +20,7 @@ use Rattle.update.specs.Messages.{Handled, differs, checksOf, handleMess
 use Rattle.update.proofs.Cases.{reply-ends, move-ends, message-ends}
 
 -- ---- a reply fits
-move-fits : (checks : ℕ) → checks ≤ slotCount → moveSize checks ≤ replyRoom
+pub move-fits : (checks : ℕ) → checks ≤ slotCount → moveSize checks ≤ replyRoom
 move-fits zero h = omega arith
 move-fits (suc checks) h = omega arith
 

@@ -1,5 +1,5 @@
 -- `slot::expire` meets its contract: by what the slot holds and its expiry. Assumes nothing.
-use Rattle.slot.proofs.Cases.{expire-empty, expire-early, expire-late}
+use Rattle.slot.proofs.Cases.{on-empty, expire-early, expire-late}
 use borrow.Author.Needs.{needs}
 use Rattle.slot.proofs.expire.Statement.{statement}
 use Rattle.slot.proofs.expire.Tie as tie
@@ -11,7 +11,7 @@ enum-known-holding : tie.Need-enum-known-holding
 enum-known-holding c = search needs
 
 returns : tie.Need-returns
-returns c = search expire-empty
+returns c = search on-empty
 
 returns-2 : tie.Need-returns-2
 returns-2 c = search expire-late

@@ -1,0 +1,57 @@
+-- What the definitions say of a slot whose case is known, and of offered nonces that a loop compares. Assumes nothing.
+use Prim.Native.Nat.{ℕ, _+_, _≤_, _<_}
+use mathlib.Core.Path.{_≡_, refl, sym, _∙_}
+use mathlib.Core.Bool.{Bool, true, false}
+use mathlib.Core.List.{List}
+use lib.Dec.{eqb}
+use lib.ListN.{length, getD, drop}
+use borrow.Author.Tests.{ltb-false, eq-eqb, ne-eqb}
+use Rattle.octets.specs.Records.{some}
+use Rattle.locator.specs.declared.ListedLocator.{ListedLocator}
+use Rattle.slot.specs.declared.Check.{Check}
+use Rattle.slot.specs.declared.Status.the-variants.{Unverified, Deprecated}
+use Rattle.slot.specs.declared.Locator.{Locator}
+use Rattle.slot.specs.declared.Holding.the-variants.{Held}
+use Rattle.slot.specs.declared.Slot.{Slot}
+use Rattle.slot.specs.Found.{isNonce, heldAs}
+use Rattle.slots.proofs.Loops.{Loop, loop, or-cond, some-loop}
+use Rattle.readdress.specs.Steps.{isListed}
+use Rattle.readdress.specs.Checks.{twice, awaits, checkCount, checked}
+use Rattle.association.specs.Form.{idLimit}
+use Rattle.update.specs.Refusals.{refusal11}
+use Rattle.checks.specs.Given.{given}
+
+-- whether a nonce stands among those after it
+pub twice-loop : Loop (λ n xs. twice xs) (λ x xs. some (eqb x) xs) (λ n. true) false
+unfolding twice
+twice-loop = loop (λ n xs. twice xs) (λ x xs. some (eqb x) xs) (λ n. true) false (λ n. refl) (λ n x xs. or-cond (some (eqb x) xs) (twice xs))
+
+-- a nonce against one of those offered, which the code compares as numbers
+pub offered-hit : (d nonce : ℕ) (xs : List ℕ) (j : ℕ) (whole : Bool) → length xs ≡ 8 → j < 8 → whole ≡ some (eqb nonce) (drop j xs) →
+    nonce ≡ getD xs j d → true ≡ whole
+offered-hit d nonce xs j whole e h p q = some-loop (eqb nonce) .hit xs 8 j d whole (eqb nonce (getD xs j d)) e h p refl (eq-eqb nonce (getD xs j d) q)
+
+pub offered-miss : (d nonce : ℕ) (xs : List ℕ) (j : ℕ) (whole : Bool) → length xs ≡ 8 → j < 8 → whole ≡ some (eqb nonce) (drop j xs) →
+    (nonce ≡ getD xs j d → ⊥) → whole ≡ some (eqb nonce) (drop (j + 1) xs)
+offered-miss d nonce xs j whole e h p q = some-loop (eqb nonce) .miss xs 8 j d whole (eqb nonce (getD xs j d)) e h p refl (ne-eqb nonce (getD xs j d) q)
+
+pub nonce-held : (nonce : ℕ) (s : Slot) (l : Locator) (k : Check) → s .holding ≡ Held l → l .status ≡ Unverified k →
+    eqb nonce (k .nonce) ≡ heldAs (isNonce nonce) s
+nonce-held nonce s l k p q = simp (p, q)
+
+pub awaits-listed : (listed : List ListedLocator) (s : Slot) (l : Locator) (b : Bool) → s .holding ≡ Held l → l .status ≡ Deprecated →
+    b ≡ isListed (l .address) listed → b ≡ awaits listed s
+awaits-listed listed s l b p q r = r ∙ simp (p, q)
+
+-- the answer by refusal 11, where the code counted n checks and found b
+module _ (listed : List ListedLocator) (next : ℕ) (ss : List Slot) (n : ℕ) (b : Bool) where
+  pub given-none : (ns : List ℕ) → n ≡ checkCount listed ss → b ≡ refusal11 next n → b ≡ true → ss ≡ given listed next ns ss
+  given-none ns p q r = rw (← p, ← q, r)
+
+  pub given-all : (ns : List ℕ) (rs : List Slot) → n ≡ checkCount listed ss → b ≡ refusal11 next n → b ≡ false → rs ≡ checked listed next ns 0 ss →
+      rs ≡ given listed next ns ss
+  given-all ns rs p q r e = e ∙ rw (← p, ← q, r)
+
+  -- there are own Update IDs for all
+  pub enough : n ≡ checkCount listed ss → b ≡ refusal11 next n → b ≡ false → next + checkCount listed ss ≤ idLimit
+  enough p q r = rw (← p) (ltb-false idLimit (next + n) (sym q ∙ r))

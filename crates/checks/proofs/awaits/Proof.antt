@@ -1,0 +1,50 @@
+-- `checks::awaits` meets its contract: by what the slot holds. Assumes nothing.
+use Rattle.checks.proofs.Cases.{awaits-listed}
+use borrow.Author.Needs.{needs}
+use Rattle.checks.proofs.awaits.Statement.{statement}
+use Rattle.checks.proofs.awaits.Tie as tie
+
+enum-told : tie.Need-enum-told
+enum-told c = search needs
+
+enum-known-holding : tie.Need-enum-known-holding
+enum-known-holding c = search needs
+
+enum-told-2 : tie.Need-enum-told-2
+enum-told-2 c = search needs
+
+enum-told-3 : tie.Need-enum-told-3
+enum-told-3 c = search needs
+
+enum-told-4 : tie.Need-enum-told-4
+enum-told-4 c = search needs
+
+is-listed-requires : tie.Need-is-listed-requires
+is-listed-requires c κs = tt
+
+returns : tie.Need-returns
+returns c = search needs
+
+returns-2 : tie.Need-returns-2
+returns-2 c = search needs
+
+returns-3 : tie.Need-returns-3
+returns-3 c = search needs
+
+returns-4 : tie.Need-returns-4
+returns-4 c = search awaits-listed
+
+pub awaits-spec : {M : Type 1} → statement M
+awaits-spec =
+    tie.close
+    (tie.spec
+    enum-told
+    enum-known-holding
+    enum-told-2
+    enum-told-3
+    enum-told-4
+    is-listed-requires
+    returns
+    returns-2
+    returns-3
+    returns-4)

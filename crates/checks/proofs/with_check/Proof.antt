@@ -1,0 +1,20 @@
+-- `checks::with_check` meets its contract: by what the slot holds. Assumes nothing.
+use Rattle.slot.proofs.Cases.{on-empty, on-held}
+use borrow.Author.Needs.{needs}
+use Rattle.checks.proofs.with_check.Statement.{statement}
+use Rattle.checks.proofs.with_check.Tie as tie
+
+enum-told : tie.Need-enum-told
+enum-told c = search needs
+
+enum-known-holding : tie.Need-enum-known-holding
+enum-known-holding c = search needs
+
+returns : tie.Need-returns
+returns c = search on-empty
+
+returns-2 : tie.Need-returns-2
+returns-2 c = search on-held
+
+pub with-check-spec : {M : Type 1} → statement M
+with-check-spec = tie.close (tie.spec enum-told enum-known-holding returns returns-2)

@@ -1,0 +1,221 @@
+// New checks, and refusal 10. Depends on judge, listed, update, readdress, association, locator, locator_set, slot and boolean.
+use locator::ListedLocator;
+use locator_set::SET_LIMIT;
+use reply::NONCE_COUNT;
+use slot::Check;
+use slot::Holding;
+use slot::Locator;
+use slot::SLOT_COUNT;
+use slot::Slot;
+use slot::Status;
+ghost use mathlib.Core.Path.{_≡_};
+ghost use Prim.Native.Nat.{_+_, _≤_};
+ghost use lib.Dec.{eqb};
+ghost use lib.ListN.{take, drop};
+ghost use Rattle.octets.specs.Records.{some};
+ghost use Rattle.slot.specs.declared.Locator as locators;
+ghost use Rattle.slot.specs.declared.Status.the-variants.{Unverified};
+ghost use Rattle.slot.specs.Found.{withStatus, onLocator, isNonce, heldAs, slotCount};
+ghost use Rattle.association.specs.Form.{idLimit};
+ghost use Rattle.readdress.specs.Checks as rules;
+ghost use Rattle.checks.specs.Given.{given};
+
+// The nonce is one of those from `start` on.
+fn is_offered_from(nonces: [u64; NONCE_COUNT], nonce: u64, start: usize) -> bool
+    ensures { λ r. ⌜ r ≡ some (eqb nonce) (drop start nonces) ⌝ }
+{
+    let offered = nonces;
+    let mut j = start;
+    while j < NONCE_COUNT {
+        if nonce == offered[j] {
+            return true;
+        }
+        j += 1;
+    }
+    false
+}
+
+// Two of them are equal.
+fn any_twice(nonces: [u64; NONCE_COUNT]) -> bool
+    ensures { λ r. ⌜ r ≡ rules.twice nonces ⌝ }
+{
+    let offered = nonces;
+    let mut i: usize = 0;
+    while i < NONCE_COUNT {
+        let nonce = offered[i];
+        if is_offered_from(offered, nonce, i + 1) {
+            return true;
+        }
+        i += 1;
+    }
+    false
+}
+
+// The locator in the slot has a check with this nonce.
+fn has_nonce(slot: Slot, nonce: u64) -> bool
+    ensures { λ r. ⌜ r ≡ heldAs (isNonce nonce) slot ⌝ }
+{
+    let holding = slot.holding;
+    match holding {
+        Holding::Empty => false,
+        Holding::Held(l) => {
+            let status = l.status;
+            match status {
+                Status::Unverified(k) => nonce == k.nonce,
+                Status::Active => false,
+                Status::Deprecated => false,
+            }
+        }
+    }
+}
+
+// The nonce is outstanding.
+fn is_outstanding(slots: [Slot; SLOT_COUNT], nonce: u64) -> bool
+    ensures { λ r. ⌜ r ≡ rules.isOutstanding slots nonce ⌝ }
+{
+    let held = slots;
+    let mut i: usize = 0;
+    while i < SLOT_COUNT {
+        let slot = held[i];
+        if has_nonce(slot, nonce) {
+            return true;
+        }
+        i += 1;
+    }
+    false
+}
+
+// One of the nonces is outstanding.
+fn any_outstanding(nonces: [u64; NONCE_COUNT], slots: [Slot; SLOT_COUNT]) -> bool
+    ensures { λ r. ⌜ r ≡ some (rules.isOutstanding slots) nonces ⌝ }
+{
+    let offered = nonces;
+    let mut i: usize = 0;
+    while i < NONCE_COUNT {
+        let nonce = offered[i];
+        if is_outstanding(slots, nonce) {
+            return true;
+        }
+        i += 1;
+    }
+    false
+}
+
+// Refusal 10: two offered nonces are equal, or one is outstanding.
+pub fn is_repeated_nonce(nonces: [u64; NONCE_COUNT], slots: [Slot; SLOT_COUNT]) -> bool
+    ensures { λ r. ⌜ r ≡ rules.refusal10 nonces slots ⌝ }
+{
+    boolean::either(any_twice(nonces), any_outstanding(nonces, slots))
+}
+
+// The slot gets a new check: it holds a listed address that is DEPRECATED.
+fn awaits(slot: Slot, listed: [ListedLocator; SET_LIMIT], count: usize) -> bool
+    ensures { λ r. ⌜ r ≡ rules.awaits (take count listed) slot ⌝ }
+{
+    let holding = slot.holding;
+    match holding {
+        Holding::Empty => false,
+        Holding::Held(l) => {
+            let status = l.status;
+            match status {
+                Status::Unverified(_) => false,
+                Status::Active => false,
+                Status::Deprecated => {
+                    let address = l.address;
+                    listed::is_listed(listed, count, address)
+                }
+            }
+        }
+    }
+}
+
+// The number of new checks.
+pub fn count_checks(
+    slots: [Slot; SLOT_COUNT],
+    listed: [ListedLocator; SET_LIMIT],
+    count: usize,
+) -> usize
+    ensures { λ r. ⌜ (r ≡ rules.checkCount (take count listed) slots) × (r ≤ slotCount) ⌝ }
+{
+    let held = slots;
+    let mut checks: usize = 0;
+    let mut i: usize = 0;
+    while i < SLOT_COUNT {
+        let slot = held[i];
+        if awaits(slot, listed, count) {
+            checks = checks + 1;
+            i = i + 1;
+        } else {
+            i = i + 1;
+        }
+    }
+    checks
+}
+
+// The slot with a check of this nonce and Update ID.
+fn with_check(slot: Slot, nonce: u64, id: u32) -> Slot
+    ensures { λ r. ⌜ r ≡ onLocator (λ (l : locators.Locator). withStatus l (Unverified (record { nonce = nonce; id = id }))) slot ⌝ }
+{
+    let holding = slot.holding;
+    match holding {
+        Holding::Empty => slot,
+        Holding::Held(l) => {
+            let address = l.address;
+            Slot {
+                holding: Holding::Held(Locator {
+                    address,
+                    traffic: l.traffic,
+                    expiry: l.expiry,
+                    status: Status::Unverified(Check { nonce, id }),
+                }),
+            }
+        }
+    }
+}
+
+// The slots with their new checks, which take the nonces and own Update IDs in order.
+fn deal(
+    slots: [Slot; SLOT_COUNT],
+    listed: [ListedLocator; SET_LIMIT],
+    count: usize,
+    next: u64,
+    nonces: [u64; NONCE_COUNT],
+) -> [Slot; SLOT_COUNT]
+    requires { ⌜ next + rules.checkCount (take count listed) slots ≤ idLimit ⌝ }
+    ensures { λ r. ⌜ r ≡ rules.checked (take count listed) next nonces 0 slots ⌝ }
+{
+    let offered = nonces;
+    let mut held = slots;
+    let mut k: usize = 0;
+    let mut i: usize = 0;
+    while i < SLOT_COUNT {
+        let slot = held[i];
+        if awaits(slot, listed, count) {
+            let nonce = offered[k];
+            let id = next + k as u64;
+            held[i] = with_check(slot, nonce, id as u32);
+            k = k + 1;
+            i = i + 1;
+        } else {
+            i = i + 1;
+        }
+    }
+    held
+}
+
+// The slots with their new checks, or as they are where own Update IDs do not suffice (refusal 11).
+pub fn give_checks(
+    slots: [Slot; SLOT_COUNT],
+    listed: [ListedLocator; SET_LIMIT],
+    count: usize,
+    next: u64,
+    nonces: [u64; NONCE_COUNT],
+) -> [Slot; SLOT_COUNT]
+    ensures { λ r. ⌜ r ≡ given (take count listed) next nonces slots ⌝ }
+{
+    let checks = count_checks(slots, listed, count);
+    if judge::is_used_up(next, checks) {
+        return slots;
+    }
+    deal(slots, listed, count, next, nonces)
+}

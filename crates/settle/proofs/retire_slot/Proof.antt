@@ -1,0 +1,24 @@
+-- `settle::retire_slot` meets its contract. By what the slot holds. Assumes nothing.
+use Rattle.slot.proofs.Cases.{on-empty, on-held}
+use borrow.Author.Needs.{needs}
+use Rattle.settle.proofs.retire_slot.Statement.{statement}
+use Rattle.settle.proofs.retire_slot.Tie as tie
+
+enum-told : tie.Need-enum-told
+enum-told c = search needs
+
+enum-known-holding : tie.Need-enum-known-holding
+enum-known-holding c = search needs
+
+retire-requires : tie.Need-retire-requires
+retire-requires c κs = tt
+
+returns : tie.Need-returns
+returns c = search on-empty
+
+returns-2 : tie.Need-returns-2
+returns-2 c = search on-held
+
+pub retire-slot-spec : {M : Type 1} → statement M
+retire-slot-spec =
+    tie.close (tie.spec enum-told enum-known-holding retire-requires returns returns-2)

@@ -1,0 +1,121 @@
+// Step 1, and refusal 8: an echo response against the checks that are out. Depends on readdress, packet, slot and boolean.
+use packet::EchoResponse;
+use slot::Holding;
+use slot::Locator;
+use slot::SLOT_COUNT;
+use slot::Slot;
+use slot::Status;
+ghost use mathlib.Core.Path.{_≡_};
+ghost use Rattle.octets.specs.Records.{some};
+ghost use Rattle.slot.specs.Found.{onLocator, heldAs};
+ghost use Rattle.readdress.specs.Echoes as rules;
+
+// An echo response of 8 bytes that is the nonce.
+fn echoes(echo: EchoResponse, nonce: u64) -> bool
+    ensures { λ r. ⌜ r ≡ rules.echoes echo nonce ⌝ }
+{
+    match echo {
+        EchoResponse::Absent => false,
+        EchoResponse::Nonce(n) => n == nonce,
+        EchoResponse::OtherLength => false,
+    }
+}
+
+// It is the nonce of the check that the status carries.
+fn answers(echo: EchoResponse, status: Status) -> bool
+    ensures { λ r. ⌜ r ≡ rules.answers echo status ⌝ }
+{
+    match status {
+        Status::Unverified(k) => echoes(echo, k.nonce),
+        Status::Active => false,
+        Status::Deprecated => false,
+    }
+}
+
+// The slot after the echo response: a locator whose check it answers is ACTIVE.
+fn verify_slot(slot: Slot, echo: EchoResponse) -> Slot
+    ensures { λ r. ⌜ r ≡ onLocator (rules.verifyLocator echo) slot ⌝ }
+{
+    let holding = slot.holding;
+    match holding {
+        Holding::Empty => slot,
+        Holding::Held(l) => {
+            let status = l.status;
+            if answers(echo, status) {
+                let address = l.address;
+                Slot {
+                    holding: Holding::Held(Locator {
+                        address,
+                        traffic: l.traffic,
+                        expiry: l.expiry,
+                        status: Status::Active,
+                    }),
+                }
+            } else {
+                slot
+            }
+        }
+    }
+}
+
+// The echo response answers the check of the locator in the slot.
+fn is_answered(slot: Slot, echo: EchoResponse) -> bool
+    ensures { λ r. ⌜ r ≡ heldAs (rules.answers echo) slot ⌝ }
+{
+    let holding = slot.holding;
+    match holding {
+        Holding::Empty => false,
+        Holding::Held(l) => {
+            let status = l.status;
+            answers(echo, status)
+        }
+    }
+}
+
+// It answers the check of one of the slots.
+fn any_answered(slots: [Slot; SLOT_COUNT], echo: EchoResponse) -> bool
+    ensures { λ r. ⌜ r ≡ some (heldAs (rules.answers echo)) slots ⌝ }
+{
+    let held = slots;
+    let mut i: usize = 0;
+    while i < SLOT_COUNT {
+        let slot = held[i];
+        if is_answered(slot, echo) {
+            return true;
+        }
+        i += 1;
+    }
+    false
+}
+
+// There is an echo response.
+fn is_present(echo: EchoResponse) -> bool
+    ensures { λ r. ⌜ r ≡ rules.isPresent echo ⌝ }
+{
+    match echo {
+        EchoResponse::Absent => false,
+        EchoResponse::Nonce(_) => true,
+        EchoResponse::OtherLength => true,
+    }
+}
+
+// Step 1: the slots after the echo response.
+pub fn verify_all(slots: [Slot; SLOT_COUNT], echo: EchoResponse) -> [Slot; SLOT_COUNT]
+    ensures { λ r. ⌜ r ≡ rules.verifyAll echo slots ⌝ }
+{
+    let mut held = slots;
+    let mut i: usize = 0;
+    while i < SLOT_COUNT {
+        let slot = held[i];
+        held[i] = verify_slot(slot, echo);
+        i += 1;
+    }
+    held
+}
+
+// Refusal 8: the echo response matches no outstanding nonce.
+pub fn is_unmatched(slots: [Slot; SLOT_COUNT], echo: EchoResponse) -> bool
+    ensures { λ r. ⌜ r ≡ rules.refusal8 echo slots ⌝ }
+{
+    boolean::both(is_present(echo), !any_answered(slots, echo))
+}
