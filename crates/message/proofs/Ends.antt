@@ -34,25 +34,26 @@ written-whole : (reply b after : List ℕ) (n : ℕ) → length reply ≤ length
     after ≡ overwritten (fitted (length b) reply) b → (n ≡ length reply) × (after ≡ overwritten reply b)
 written-whole reply b after n h e f = (e ∙ ap length (fitted-whole (length b) reply h), f ∙ ap (λ (r : List ℕ). overwritten r b) (fitted-whole (length b) reply h))
 
-pub repeat-written : (a : Association) (id : ℕ) (b after : List ℕ) (n : ℕ) → replyRoom ≤ length b → n ≡ length (fitted (length b) (ackBytes id)) →
-    after ≡ overwritten (fitted (length b) (ackBytes id)) b →
-    (record { outcome = Repeated; written = n; checks = 0; keymat = 0; association = a } ≡ answerOf (repeated a id)) × (after ≡ overwritten (ackBytes id) b)
-repeat-written a id b after n h e f =
+pub repeat-written : (a : Association) (id : ℕ) (b after : List ℕ) (n : ℕ) (r : MessageAnswer) → replyRoom ≤ length b →
+    n ≡ length (fitted (length b) (ackBytes id)) → after ≡ overwritten (fitted (length b) (ackBytes id)) b →
+    r ≡ record { outcome = Repeated; written = n; checks = 0; keymat = 0; association = a } →
+    (r ≡ answerOf (repeated a id)) × (after ≡ overwritten (ackBytes id) b)
+repeat-written a id b after n r h e f g =
     let l = ack-length id in
     let w = written-whole (ackBytes id) b after n (omega arith) e f in
-    (rw (w .0), w .1)
+    (g ∙ rw (w .0), w .1)
 
-pub move-written : (a : Association) (m : MoveFields) (set : List ListedLocator) (nonces b after : List ℕ) (n k : ℕ) (left : Association) →
+pub move-written : (a : Association) (m : MoveFields) (set : List ListedLocator) (nonces b after : List ℕ) (n k : ℕ) (left : Association) (r : MessageAnswer) →
     replyRoom ≤ length b → k ≤ slotCount → k ≡ checksOf a m set → left ≡ afterMove a m set nonces →
     n ≡ length (fitted (length b) (moveBytes (a .inbound) (m .id) (a .next) nonces k)) →
     after ≡ overwritten (fitted (length b) (moveBytes (a .inbound) (m .id) (a .next) nonces k)) b →
-    (record { outcome = Moved; written = n; checks = k; keymat = m .keymat; association = left } ≡ answerOf (moved a m set nonces))
-    × (after ≡ overwritten (moved a m set nonces .reply) b)
-move-written a m set nonces b after n k left h s c g e f =
+    r ≡ record { outcome = Moved; written = n; checks = k; keymat = m .keymat; association = left } →
+    (r ≡ answerOf (moved a m set nonces)) × (after ≡ overwritten (moved a m set nonces .reply) b)
+move-written a m set nonces b after n k left r h s c g e f u =
     let l = move-length (a .inbound) (m .id) (a .next) nonces k in
     let z = move-fits k s in
     let w = written-whole (moveBytes (a .inbound) (m .id) (a .next) nonces k) b after n (omega arith) e f in
-    (rw (w .0, g, c), w .1 ∙ rw c)
+    (u ∙ rw (w .0, g, c), w .1 ∙ rw c)
 
 -- ---- the answer is the definition's
 -- what a refusal's test is, by what the code found

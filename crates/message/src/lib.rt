@@ -22,17 +22,30 @@ ghost use Rattle.reply.specs.Replies.{overwritten};
 ghost use Rattle.update.specs.Refusals.{replyRoom, refusal11};
 ghost use Rattle.update.specs.Messages as messages;
 
+// An answer: its outcome, the reply bytes, the checks, the KEYMAT Index and the association after it.
+fn answer(
+    outcome: MessageOutcome,
+    written: usize,
+    checks: usize,
+    keymat: u16,
+    association: Association,
+) -> MessageAnswer
+    ensures { λ r. ⌜ r ≡ record { outcome = outcome; written = written; checks = checks; keymat = keymat; association = association } ⌝ }
+{
+    MessageAnswer {
+        outcome,
+        written,
+        checks,
+        keymat,
+        association,
+    }
+}
+
 // The answer to a refused message: nothing is written, and the association is as it was handed in.
 fn declined(a: Association, why: Refusal) -> MessageAnswer
     ensures { λ r. ⌜ r ≡ messages.answerOf (messages.declined why a) ⌝ }
 {
-    MessageAnswer {
-        outcome: MessageOutcome::Declined(why),
-        written: 0,
-        checks: 0,
-        keymat: 0,
-        association: a,
-    }
+    answer(MessageOutcome::Declined(why), 0, 0, 0, a)
 }
 
 // The answer to a repeat: the ACK again, and nothing changed.
@@ -42,13 +55,7 @@ fn repeated(a: Association, id: u32, buffer: &mut [u8]) -> MessageAnswer
     ensures { λ _. ⌜ now (buffer .exit) ≡ overwritten (messages.repeated a id .reply) (now (buffer .entry)) ⌝ }
 {
     let written = reply::write_ack(buffer, id);
-    MessageAnswer {
-        outcome: MessageOutcome::Repeated,
-        written,
-        checks: 0,
-        keymat: 0,
-        association: a,
-    }
+    answer(MessageOutcome::Repeated, written, 0, 0, a)
 }
 
 // The answer to an accepted Reply: step 1 alone, and nothing is written.
@@ -59,13 +66,7 @@ fn replied(a: Association, echo: EchoResponse) -> MessageAnswer
     let verified = verify::verify_all(slots, echo);
     let mut association = a;
     association.slots = verified;
-    MessageAnswer {
-        outcome: MessageOutcome::Replied,
-        written: 0,
-        checks: 0,
-        keymat: 0,
-        association,
-    }
+    answer(MessageOutcome::Replied, 0, 0, 0, association)
 }
 
 // Steps 1 to 5 of a Move.
@@ -139,13 +140,13 @@ fn moved(
 {
     let written = reply::write_move(buffer, a.inbound, m.id, a.next, nonces, checks);
     let association = after_move(a, m, listed, nonces, placed, checks);
-    MessageAnswer {
-        outcome: MessageOutcome::Moved,
+    answer(
+        MessageOutcome::Moved,
         written,
         checks,
-        keymat: m.keymat,
+        m.keymat,
         association,
-    }
+    )
 }
 
 // Handles a message: the association, the packet's bytes, whether the host found it authentic, eight new nonces, and the buffer for the reply.
@@ -182,31 +183,37 @@ pub fn receive(
         Message::Reply(echo) => {
             // 8
             if verify::is_unmatched(held, echo) {
-                return declined(a, Refusal::UnmatchedEcho);
+                declined(a, Refusal::UnmatchedEcho)
+            } else {
+                replied(a, echo)
             }
-            replied(a, echo)
         }
         Message::Move(m) => {
             let peer = a.peer;
             let echo = m.echo;
             let count = m.count;
+            let stale = judge::is_stale(m.id, peer);
+            let repeat = judge::is_repeat(m.id, peer);
+            let unmatched = verify::is_unmatched(held, echo);
+            let wrong_spi = judge::is_wrong_spi(a.outbound, m.old, m.new, listed, count);
+            let nonce_taken = checks::is_repeated_nonce(nonces, held);
             // 7, and Repeated
-            if judge::is_stale(m.id, peer) {
+            if stale {
                 return declined(a, Refusal::StaleUpdateId);
             }
-            if judge::is_repeat(m.id, peer) {
+            if repeat {
                 return repeated(a, m.id, buffer);
             }
             // 8
-            if verify::is_unmatched(held, echo) {
+            if unmatched {
                 return declined(a, Refusal::UnmatchedEcho);
             }
             // 9
-            if judge::is_wrong_spi(a.outbound, m.old, m.new, listed, count) {
+            if wrong_spi {
                 return declined(a, Refusal::WrongSpi);
             }
             // 10
-            if checks::is_repeated_nonce(nonces, held) {
+            if nonce_taken {
                 return declined(a, Refusal::RepeatedNonce);
             }
             // 11

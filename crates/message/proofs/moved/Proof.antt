@@ -12,15 +12,21 @@ write-move-requires c κs = tt
 after-move-requires : tie.Need-after-move-requires
 after-move-requires c κs = search needs
 
+answer-requires : tie.Need-answer-requires
+answer-requires c κs = tt
+
 same-length : tie.Need-same-length
 same-length c = search needs
 
 returns : tie.Need-returns
 returns c =
-    let start = c .before .before .before .before .before .before in
-    let call = c .before .before .before .write-move in
-    move-written (start .args .a) (start .args .m) (take (start .args .m .count) (start .args .listed)) (start .args .nonces) (now (start .args .buffer)) (call .last .0) (call .result) (start .args .checks) (c .after-move .result)
-    (start .pre .1 .1) (start .pre .1 .0 .0) (start .pre .0 .1) (c .after-move .ensures) (call .ensures .0) (call .ensures .1)
+    let start = c .before .before .before .before .before .before .before in
+    let call = c .before .before .before .before .write-move in
+    let after = c .before .after-move in
+    move-written (start .args .a) (start .args .m) (take (start .args .m .count) (start .args .listed)) (start .args .nonces) (now (start .args .buffer)) (call .last .0) (call .result) (start .args .checks) (after .result) _
+    (start .pre .1 .1) (start .pre .1 .0 .0) (start .pre .0 .1) (after .ensures) (call .ensures .0) (call .ensures .1) (c .answer .ensures)
 
 pub moved-spec : {M : Type 1} → statement M
-moved-spec = tie.close (tie.spec write-move-requires after-move-requires same-length returns)
+moved-spec =
+    tie.close
+    (tie.spec write-move-requires after-move-requires answer-requires same-length returns)

@@ -84,36 +84,37 @@ move-refused : (c : tie.After-message3) (r : MessageAnswer) (number : ℕ) → r
     Handles c (refused number (given c .association)) → Answered (given c) r (given c .buffer)
 move-refused c r number e g = ends-refused (given c) r number e (moves c (refused number (given c .association)) g)
 
--- it is newer than what was seen
-abbrev at-repeat : tie.Else6 → tie.After-message3
-at-repeat c = c .before .before .before .before .before
+-- refusals 7 to 10 are tried when all of them are worked out
+abbrev at-tests : tie.After-is-repeated-nonce → tie.After-message3
+at-tests c = c .before .before .before .before .before .before
 
-newer : (c : tie.Else6) → Newer (given (at-repeat c) .association) (fields (at-repeat c)) (listed (at-repeat c)) (given (at-repeat c) .nonces)
+-- it is newer than what was seen
+newer : (c : tie.Else6) →
+    Newer (given (at-tests (c .before .before)) .association) (fields (at-tests (c .before .before))) (listed (at-tests (c .before .before))) (given (at-tests (c .before .before)) .nonces)
 newer c = record {
-  higher = found (c .before .before .before .is-stale .ensures) (c .before .before .if5 .left);
-  other = found (c .before .is-repeat .ensures) (c .if6 .left);
+  higher = found (c .before .before .before .before .before .before .is-stale .ensures) (c .before .if5 .left);
+  other = found (c .before .before .before .before .before .is-repeat .ensures) (c .if6 .left);
 }
 
 -- its echo response, if any, is answered for
-answered-8 : (c : tie.Else7) →
-    refusal8 (fields (at-repeat (c .before .before)) .echo) (given (at-repeat (c .before .before)) .association .slots) ≡ false
-answered-8 c = found (c .before .is-unmatched2 .ensures) (c .if7 .left)
+answered-8 : (c : tie.Else7) → refusal8 (fields (at-tests (c .before .before .before)) .echo) (given (at-tests (c .before .before .before)) .association .slots) ≡ false
+answered-8 c = found (c .before .before .before .before .before .is-unmatched2 .ensures) (c .if7 .left)
 
 -- its SPIs are right
 bound-9 : (c : tie.Else8) →
-    refusal9 (given (at-repeat (c .before .before .before .before)) .association .outbound) (fields (at-repeat (c .before .before .before .before)) .old) (fields (at-repeat (c .before .before .before .before)) .new) (listed (at-repeat (c .before .before .before .before))) ≡ false
-bound-9 c = found (c .before .is-wrong-spi .ensures) (c .if8 .left)
+    refusal9 (given (at-tests (c .before .before .before .before)) .association .outbound) (fields (at-tests (c .before .before .before .before)) .old) (fields (at-tests (c .before .before .before .before)) .new) (listed (at-tests (c .before .before .before .before))) ≡ false
+bound-9 c = found (c .before .before .before .before .before .is-wrong-spi .ensures) (c .if8 .left)
 
 -- and the nonces are new
 abbrev at-nonces : tie.Else9 → tie.After-message3
-at-nonces c = at-repeat (c .before .before .before .before .before .before)
+at-nonces c = at-tests (c .before .before .before .before .before)
 
 tried : (c : tie.Else9) → Tried (given (at-nonces c) .association) (fields (at-nonces c)) (listed (at-nonces c)) (given (at-nonces c) .nonces)
 tried c = record {
-  newer = newer (c .before .before .before .before .before .before);
-  answered = answered-8 (c .before .before .before .before);
-  bound = bound-9 (c .before .before);
-  fresh = found (c .before .is-repeated-nonce .ensures) (c .if9 .left);
+  newer = newer (c .before .before .before);
+  answered = answered-8 (c .before .before);
+  bound = bound-9 (c .before);
+  fresh = found (c .before .before .before .before .before .is-repeated-nonce .ensures) (c .if9 .left);
 }
 
 -- the checks that it brings
@@ -184,13 +185,6 @@ is-unmatched-requires c κs = tt
 declined-requires-5 : tie.Need-declined-requires-5
 declined-requires-5 c κs = tt
 
-returns-4 : tie.Need-returns-4
-returns-4 c =
-    let known = c .before .before .before .before in
-    let given = lent (start (read-2 known)) in
-    ends-refused given (c .declined5 .result) 8 (c .declined5 .ensures)
-    (replies known (refused 8 (given .association)) (reply-stops-8 (given .association) (echo known) (found (c .before .before .is-unmatched .ensures) (c .before .if4 .taken))))
-
 replied-requires : tie.Need-replied-requires
 replied-requires c κs = tt
 
@@ -200,67 +194,67 @@ enum-known-message-3 c = search needs
 is-stale-requires : tie.Need-is-stale-requires
 is-stale-requires c κs = tt
 
-declined-requires-6 : tie.Need-declined-requires-6
-declined-requires-6 c κs = tt
-
-returns-5 : tie.Need-returns-5
-returns-5 c =
-    let known = c .before .before .before .before in
-    move-refused known (c .declined6 .result) 7 (c .declined6 .ensures)
-    (stops-7 (given known .association) (fields known) (listed known) (given known .nonces) (found (c .before .before .is-stale .ensures) (c .before .if5 .taken)))
-
 is-repeat-requires : tie.Need-is-repeat-requires
 is-repeat-requires c κs = tt
-
-repeated-requires : tie.Need-repeated-requires
-repeated-requires c κs = room-for (length (given (c .before .before .before .before .before .before) .buffer)) (front (read-3 (c .before .before .before .before .before .before)) .room)
-
-same-length : tie.Need-same-length
-same-length c = search needs
-
-returns-6 : tie.Need-returns-6
-returns-6 c =
-    let known = c .before .before .before .before .before .before .before .before .before in
-    let call = c .before .before .repeated in
-    let reply = repeated (given known .association) (fields known .id) in
-    ends (given known) (call .result) (call .last .1 .1 .0) reply (call .ensures .0) (call .ensures .1)
-    (moves known reply (repeat-goes (given known .association) (fields known) (listed known) (given known .nonces) (found (c .before .before .before .before .before .before .before .is-stale .ensures) (c .before .before .before .before .before .before .if5 .left)) (found (c .before .before .before .before .before .is-repeat .ensures) (c .before .before .before .before .if6 .taken))))
 
 is-unmatched-requires-2 : tie.Need-is-unmatched-requires-2
 is-unmatched-requires-2 c κs = tt
 
-declined-requires-7 : tie.Need-declined-requires-7
-declined-requires-7 c κs = tt
-
-returns-7 : tie.Need-returns-7
-returns-7 c =
-    let known = c .before .before .before .before .before .before .before .before in
-    move-refused known (c .declined7 .result) 8 (c .declined7 .ensures)
-    (stops-8 (given known .association) (fields known) (listed known) (given known .nonces) (newer (c .before .before .before)) (found (c .before .before .is-unmatched2 .ensures) (c .before .if7 .taken)))
-
 is-wrong-spi-requires : tie.Need-is-wrong-spi-requires
 is-wrong-spi-requires c κs = tt
-
-declined-requires-8 : tie.Need-declined-requires-8
-declined-requires-8 c κs = tt
-
-returns-8 : tie.Need-returns-8
-returns-8 c =
-    let known = c .before .before .before .before .before .before .before .before .before .before in
-    move-refused known (c .declined8 .result) 9 (c .declined8 .ensures)
-    (stops-9 (given known .association) (fields known) (listed known) (given known .nonces) (newer (c .before .before .before .before .before)) (answered-8 (c .before .before .before)) (found (c .before .before .is-wrong-spi .ensures) (c .before .if8 .taken)))
 
 is-repeated-nonce-requires : tie.Need-is-repeated-nonce-requires
 is-repeated-nonce-requires c κs = tt
 
+declined-requires-6 : tie.Need-declined-requires-6
+declined-requires-6 c κs = tt
+
+returns-4 : tie.Need-returns-4
+returns-4 c =
+    let known = c .before .before .before .before .before .before .before .before in
+    move-refused known (c .declined6 .result) 7 (c .declined6 .ensures)
+    (stops-7 (given known .association) (fields known) (listed known) (given known .nonces) (found (c .before .before .before .before .before .before .is-stale .ensures) (c .before .if5 .taken)))
+
+repeated-requires : tie.Need-repeated-requires
+repeated-requires c κs = room-for (length (given (c .before .before .before .before .before .before .before .before .before) .buffer)) (front (read-3 (c .before .before .before .before .before .before .before .before .before)) .room)
+
+same-length : tie.Need-same-length
+same-length c = search needs
+
+returns-5 : tie.Need-returns-5
+returns-5 c =
+    let known = c .before .before .before .before .before .before .before .before .before .before .before .before in
+    let call = c .before .before .repeated in
+    let reply = repeated (given known .association) (fields known .id) in
+    ends (given known) (call .result) (call .last .1 .1 .0) reply (call .ensures .0) (call .ensures .1)
+    (moves known reply (repeat-goes (given known .association) (fields known) (listed known) (given known .nonces) (found (c .before .before .before .before .before .before .before .before .before .before .is-stale .ensures) (c .before .before .before .before .before .if5 .left)) (found (c .before .before .before .before .before .before .before .before .before .is-repeat .ensures) (c .before .before .before .before .if6 .taken))))
+
+declined-requires-7 : tie.Need-declined-requires-7
+declined-requires-7 c κs = tt
+
+returns-6 : tie.Need-returns-6
+returns-6 c =
+    let known = c .before .before .before .before .before .before .before .before .before .before in
+    move-refused known (c .declined7 .result) 8 (c .declined7 .ensures)
+    (stops-8 (given known .association) (fields known) (listed known) (given known .nonces) (newer (c .before .before)) (found (c .before .before .before .before .before .before .is-unmatched2 .ensures) (c .before .if7 .taken)))
+
+declined-requires-8 : tie.Need-declined-requires-8
+declined-requires-8 c κs = tt
+
+returns-7 : tie.Need-returns-7
+returns-7 c =
+    let known = c .before .before .before .before .before .before .before .before .before .before .before in
+    move-refused known (c .declined8 .result) 9 (c .declined8 .ensures)
+    (stops-9 (given known .association) (fields known) (listed known) (given known .nonces) (newer (c .before .before .before)) (answered-8 (c .before .before)) (found (c .before .before .before .before .before .before .is-wrong-spi .ensures) (c .before .if8 .taken)))
+
 declined-requires-9 : tie.Need-declined-requires-9
 declined-requires-9 c κs = tt
 
-returns-9 : tie.Need-returns-9
-returns-9 c =
+returns-8 : tie.Need-returns-8
+returns-8 c =
     let known = c .before .before .before .before .before .before .before .before .before .before .before .before in
     move-refused known (c .declined9 .result) 10 (c .declined9 .ensures)
-    (stops-10 (given known .association) (fields known) (listed known) (given known .nonces) (newer (c .before .before .before .before .before .before .before)) (answered-8 (c .before .before .before .before .before)) (bound-9 (c .before .before .before)) (found (c .before .before .is-repeated-nonce .ensures) (c .before .if9 .taken)))
+    (stops-10 (given known .association) (fields known) (listed known) (given known .nonces) (newer (c .before .before .before .before)) (answered-8 (c .before .before .before)) (bound-9 (c .before .before)) (found (c .before .before .before .before .before .before .is-repeated-nonce .ensures) (c .before .if9 .taken)))
 
 take-steps-requires : tie.Need-take-steps-requires
 take-steps-requires c κs = sound (given (at-nonces c) .association) (front (read-3 (at-nonces c)) .sound) .time
@@ -274,8 +268,8 @@ is-used-up-requires c κs = tt
 declined-requires-10 : tie.Need-declined-requires-10
 declined-requires-10 c κs = tt
 
-returns-10 : tie.Need-returns-10
-returns-10 c =
+returns-9 : tie.Need-returns-9
+returns-9 c =
     let known = c .before .before .before .before .before .before .before .before .before .before .before .before .before .before .before .before .before in
     move-refused known (c .declined10 .result) 11 (c .declined10 .ensures)
     (stops-11 (given known .association) (fields known) (listed known) (given known .nonces) (c .before .before .before .count-checks .result) (tried (c .before .before .before .before .before .before)) (counted (c .before .before .before)) (found (c .before .before .is-used-up .ensures) (c .before .if10 .taken)))
@@ -290,14 +284,21 @@ moved-requires c κs =
       ),
     )
 
-returns-11 : tie.Need-returns-11
-returns-11 c =
+returns-10 : tie.Need-returns-10
+returns-10 c =
     let known = c .before .before in
     let read = known .before .before .before .before in
     let given = lent (start read) in
     let why = known .message .given .0 .0 in
     ends given (c .declined4 .result) (given .buffer) (declined why (given .association)) (c .declined4 .ensures) refl
     (read-refused given (read .read-packet .result) (front read) why (known .message .given .1))
+
+returns-11 : tie.Need-returns-11
+returns-11 c =
+    let known = c .before .before .before .before in
+    let given = lent (start (read-2 known)) in
+    ends-refused given (c .declined5 .result) 8 (c .declined5 .ensures)
+    (replies known (refused 8 (given .association)) (reply-stops-8 (given .association) (echo known) (found (c .before .before .is-unmatched .ensures) (c .before .if4 .taken))))
 
 returns-12 : tie.Need-returns-12
 returns-12 c =
@@ -338,31 +339,31 @@ receive-spec =
     enum-known-message-2
     is-unmatched-requires
     declined-requires-5
-    returns-4
     replied-requires
     enum-known-message-3
     is-stale-requires
-    declined-requires-6
-    returns-5
     is-repeat-requires
+    is-unmatched-requires-2
+    is-wrong-spi-requires
+    is-repeated-nonce-requires
+    declined-requires-6
+    returns-4
     repeated-requires
     same-length
-    returns-6
-    is-unmatched-requires-2
+    returns-5
     declined-requires-7
-    returns-7
-    is-wrong-spi-requires
+    returns-6
     declined-requires-8
-    returns-8
-    is-repeated-nonce-requires
+    returns-7
     declined-requires-9
-    returns-9
+    returns-8
     take-steps-requires
     count-checks-requires
     is-used-up-requires
     declined-requires-10
-    returns-10
+    returns-9
     moved-requires
+    returns-10
     returns-11
     returns-12
     same-length-2

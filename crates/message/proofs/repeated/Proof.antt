@@ -8,14 +8,17 @@ use Rattle.message.proofs.repeated.Tie as tie
 write-ack-requires : tie.Need-write-ack-requires
 write-ack-requires c κs = tt
 
+answer-requires : tie.Need-answer-requires
+answer-requires c κs = tt
+
 same-length : tie.Need-same-length
 same-length c = search needs
 
 returns : tie.Need-returns
 returns c =
-    let start = c .before .before .before .before .before in
-    let call = c .before .before .write-ack in
-    repeat-written (start .args .a) (start .args .id) (now (start .args .buffer)) (call .last .0) (call .result) (start .pre) (call .ensures .0) (call .ensures .1)
+    let start = c .before .before .before .before .before .before in
+    let call = c .before .before .before .write-ack in
+    repeat-written (start .args .a) (start .args .id) (now (start .args .buffer)) (call .last .0) (call .result) _ (start .pre) (call .ensures .0) (call .ensures .1) (c .answer .ensures)
 
 pub repeated-spec : {M : Type 1} → statement M
-repeated-spec = tie.close (tie.spec write-ack-requires same-length returns)
+repeated-spec = tie.close (tie.spec write-ack-requires answer-requires same-length returns)
