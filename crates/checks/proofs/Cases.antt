@@ -1,7 +1,7 @@
 -- What the definitions say of a slot whose case is known, and of offered nonces that a loop compares. Assumes nothing.
 use Prim.Native.Nat.{ℕ, _+_, _≤_, _<_}
 use mathlib.Core.Path.{_≡_, refl, sym, _∙_}
-use mathlib.Core.Bool.{Bool, true, false}
+use mathlib.Core.Bool.{Bool, true, false, _&&_}
 use mathlib.Core.List.{List}
 use lib.Dec.{eqb}
 use lib.ListN.{length, getD, drop}
@@ -9,11 +9,11 @@ use borrow.Author.Tests.{ltb-false, eq-eqb, ne-eqb}
 use Rattle.octets.specs.Records.{some}
 use Rattle.locator.specs.declared.ListedLocator.{ListedLocator}
 use Rattle.slot.specs.declared.Check.{Check}
-use Rattle.slot.specs.declared.Status.the-variants.{Unverified, Deprecated}
+use Rattle.slot.specs.declared.Status.the-variants.{Unverified}
 use Rattle.slot.specs.declared.Locator.{Locator}
 use Rattle.slot.specs.declared.Holding.the-variants.{Held}
 use Rattle.slot.specs.declared.Slot.{Slot}
-use Rattle.slot.specs.Found.{isNonce, heldAs}
+use Rattle.slot.specs.Found.{isNonce, heldAs, isDeprecated}
 use Rattle.slots.proofs.Loops.{Loop, loop, or-cond, some-loop}
 use Rattle.readdress.specs.Steps.{isListed}
 use Rattle.readdress.specs.Checks.{twice, awaits, checkCount, checked}
@@ -39,9 +39,9 @@ pub nonce-held : (nonce : ℕ) (s : Slot) (l : Locator) (k : Check) → s .holdi
     eqb nonce (k .nonce) ≡ heldAs (isNonce nonce) s
 nonce-held nonce s l k p q = simp (p, q)
 
-pub awaits-listed : (listed : List ListedLocator) (s : Slot) (l : Locator) (b : Bool) → s .holding ≡ Held l → l .status ≡ Deprecated →
-    b ≡ isListed (l .address) listed → b ≡ awaits listed s
-awaits-listed listed s l b p q r = r ∙ simp (p, q)
+pub awaits-held : (listed : List ListedLocator) (s : Slot) (l : Locator) (d b r : Bool) → s .holding ≡ Held l → d ≡ isDeprecated (l .status) →
+    b ≡ isListed (l .address) listed → r ≡ (d && b) → r ≡ awaits listed s
+awaits-held listed s l d b r p q u v = rw (v, q, u, p)
 
 -- the answer by refusal 11, where the code counted n checks and found b
 module _ (listed : List ListedLocator) (next : ℕ) (ss : List Slot) (n : ℕ) (b : Bool) where

@@ -4,7 +4,6 @@ use locator_set::SET_LIMIT;
 use reply::NONCE_COUNT;
 use slot::Check;
 use slot::Holding;
-use slot::Locator;
 use slot::SLOT_COUNT;
 use slot::Slot;
 use slot::Status;
@@ -117,14 +116,11 @@ fn awaits(slot: Slot, listed: [ListedLocator; SET_LIMIT], count: usize) -> bool
         Holding::Empty => false,
         Holding::Held(l) => {
             let status = l.status;
-            match status {
-                Status::Unverified(_) => false,
-                Status::Active => false,
-                Status::Deprecated => {
-                    let address = l.address;
-                    listed::is_listed(listed, count, address)
-                }
-            }
+            let address = l.address;
+            boolean::both(
+                slot::is_deprecated(status),
+                listed::is_listed(listed, count, address),
+            )
         }
     }
 }
@@ -160,14 +156,9 @@ fn with_check(slot: Slot, nonce: u64, id: u32) -> Slot
     match holding {
         Holding::Empty => slot,
         Holding::Held(l) => {
-            let address = l.address;
+            let check = Check { nonce, id };
             Slot {
-                holding: Holding::Held(Locator {
-                    address,
-                    traffic: l.traffic,
-                    expiry: l.expiry,
-                    status: Status::Unverified(Check { nonce, id }),
-                }),
+                holding: Holding::Held(slot::with_status(l, Status::Unverified(check))),
             }
         }
     }

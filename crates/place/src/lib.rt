@@ -15,23 +15,12 @@ ghost use mathlib.Core.Path.{_≡_};
 ghost use Prim.Native.Nat.{_<_};
 ghost use lib.ListN.{take};
 ghost use Rattle.credit.specs.Clock.{timeLimit};
-ghost use Rattle.slot.specs.Found.{holds, isDeprecated, slotCount};
+ghost use Rattle.slot.specs.Found.{holds, slotCount};
 ghost use Rattle.path.specs.Choices.{lowest};
 ghost use Rattle.path.specs.declared.Choice.the-variants.{Chosen};
 ghost use Rattle.readdress.specs.Steps.{isFree, dropped, placeAt, place, placeOther, placeAll, markedSlot};
 ghost use Rattle.readdress.specs.Moves.{newPreference};
 ghost use Rattle.place.specs.Placing.{placedAt, numberOf};
-
-// The status is DEPRECATED.
-fn is_deprecated(status: Status) -> bool
-    ensures { λ r. ⌜ r ≡ isDeprecated status ⌝ }
-{
-    match status {
-        Status::Unverified(_) => false,
-        Status::Active => false,
-        Status::Deprecated => true,
-    }
-}
 
 // The slot is empty, or holds a DEPRECATED address that the set does not list.
 fn is_free(slot: Slot, listed: [ListedLocator; SET_LIMIT], count: usize) -> bool
@@ -44,7 +33,7 @@ fn is_free(slot: Slot, listed: [ListedLocator; SET_LIMIT], count: usize) -> bool
             let status = l.status;
             let address = l.address;
             boolean::both(
-                is_deprecated(status),
+                slot::is_deprecated(status),
                 !listed::is_listed(listed, count, address),
             )
         }

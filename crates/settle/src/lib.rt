@@ -16,20 +16,7 @@ ghost use Rattle.slot.specs.Found.{onLocator};
 ghost use Rattle.readdress.specs.Steps as steps;
 ghost use Rattle.settle.specs.Renewed.{renewedAt};
 
-// A locator turned DEPRECATED.
-fn deprecate(l: Locator) -> Locator
-    ensures { λ r. ⌜ r ≡ steps.deprecate l ⌝ }
-{
-    let address = l.address;
-    Locator {
-        address,
-        traffic: l.traffic,
-        expiry: l.expiry,
-        status: Status::Deprecated,
-    }
-}
-
-// The slot with its locator so.
+// The slot with its locator DEPRECATED.
 fn deprecate_slot(slot: Slot) -> Slot
     ensures { λ r. ⌜ r ≡ onLocator steps.deprecate slot ⌝ }
 {
@@ -37,7 +24,7 @@ fn deprecate_slot(slot: Slot) -> Slot
     match holding {
         Holding::Empty => slot,
         Holding::Held(l) => Slot {
-            holding: Holding::Held(deprecate(l)),
+            holding: Holding::Held(slot::with_status(l, Status::Deprecated)),
         },
     }
 }
@@ -151,7 +138,7 @@ fn retire(l: Locator, listed: [ListedLocator; SET_LIMIT], count: usize) -> Locat
     if listed::is_listed(listed, count, address) {
         return l;
     }
-    deprecate(l)
+    slot::with_status(l, Status::Deprecated)
 }
 
 // The slot with its locator so.

@@ -49,5 +49,5 @@ on-kept change s l p q = ap slotWith (p ∙ ap Held q ∙ ap (onHeld change) (sy
 pub expire-early : (t : ℕ) (s : Slot) (l : Locator) → s .holding ≡ Held l → t < l .expiry → s ≡ expireSlot t s
 expire-early t s l p h = on-kept (expireLocator t) s l p (rw (lt-leb (l .expiry) t h))
 
-pub expire-late : (t : ℕ) (s : Slot) (l : Locator) → s .holding ≡ Held l → l .expiry ≤ t → slotOf (withStatus l Deprecated) ≡ expireSlot t s
-expire-late t s l p h = simp (p, le-leb (l .expiry) t h)
+pub expire-late : (t : ℕ) (s : Slot) (l m : Locator) → s .holding ≡ Held l → l .expiry ≤ t → m ≡ withStatus l Deprecated → slotOf m ≡ expireSlot t s
+expire-late t s l m p h q = on-held (expireLocator t) s l m p (q ∙ rw (le-leb (l .expiry) t h))

@@ -1,6 +1,7 @@
 // A slot and the locator that it holds: its status, its expiry, and what two slots may not share. Depends on address and boolean.
 use address::Address;
 ghost use mathlib.Core.Path.{_≡_};
+ghost use Rattle.slot.specs.Found.{withStatus, isDeprecated};
 ghost use Rattle.slot.specs.Clashes.{sameNonce, clash};
 ghost use Rattle.slot.specs.Expiry.{expireSlot};
 
@@ -35,6 +36,30 @@ pub enum Holding {
 
 pub struct Slot {
     pub holding: Holding,
+}
+
+// The locator with another status.
+pub fn with_status(l: Locator, status: Status) -> Locator
+    ensures { λ r. ⌜ r ≡ withStatus l status ⌝ }
+{
+    let address = l.address;
+    Locator {
+        address,
+        traffic: l.traffic,
+        expiry: l.expiry,
+        status,
+    }
+}
+
+// The status is DEPRECATED.
+pub fn is_deprecated(status: Status) -> bool
+    ensures { λ r. ⌜ r ≡ isDeprecated status ⌝ }
+{
+    match status {
+        Status::Unverified(_) => false,
+        Status::Active => false,
+        Status::Deprecated => true,
+    }
 }
 
 // Both are UNVERIFIED, and the nonces of their checks are equal.
@@ -82,14 +107,8 @@ pub fn expire(slot: Slot, time: u64) -> Slot
         Holding::Empty => slot,
         Holding::Held(l) => {
             if l.expiry <= time {
-                let address = l.address;
                 Slot {
-                    holding: Holding::Held(Locator {
-                        address,
-                        traffic: l.traffic,
-                        expiry: l.expiry,
-                        status: Status::Deprecated,
-                    }),
+                    holding: Holding::Held(with_status(l, Status::Deprecated)),
                 }
             } else {
                 slot

@@ -25,9 +25,9 @@ pub answered-held : (e : EchoResponse) (s : Slot) (l : Locator) (b : Bool) → s
     b ≡ heldAs (answers e) s
 answered-held e s l b p q = q ∙ simp p
 
-pub verify-hit : (e : EchoResponse) (s : Slot) (l : Locator) (b : Bool) → s .holding ≡ Held l → b ≡ answers e (l .status) → b ≡ true →
-    slotOf (withStatus l Active) ≡ onLocator (verifyLocator e) s
-verify-hit e s l b p q r = on-held (verifyLocator e) s l (withStatus l Active) p (rw (← q, r))
+pub verify-hit : (e : EchoResponse) (s : Slot) (l m : Locator) (b : Bool) → s .holding ≡ Held l → b ≡ answers e (l .status) → b ≡ true →
+    m ≡ withStatus l Active → slotOf m ≡ onLocator (verifyLocator e) s
+verify-hit e s l m b p q r u = on-held (verifyLocator e) s l m p (u ∙ rw (← q, r))
 
 pub verify-miss : (e : EchoResponse) (s : Slot) (l : Locator) (b : Bool) → s .holding ≡ Held l → b ≡ answers e (l .status) → b ≡ false →
     s ≡ onLocator (verifyLocator e) s

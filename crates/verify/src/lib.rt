@@ -1,7 +1,6 @@
 // Step 1, and refusal 8: an echo response against the checks that are out. Depends on readdress, packet, slot and boolean.
 use packet::EchoResponse;
 use slot::Holding;
-use slot::Locator;
 use slot::SLOT_COUNT;
 use slot::Slot;
 use slot::Status;
@@ -42,14 +41,8 @@ fn verify_slot(slot: Slot, echo: EchoResponse) -> Slot
         Holding::Held(l) => {
             let status = l.status;
             if answers(echo, status) {
-                let address = l.address;
                 Slot {
-                    holding: Holding::Held(Locator {
-                        address,
-                        traffic: l.traffic,
-                        expiry: l.expiry,
-                        status: Status::Active,
-                    }),
+                    holding: Holding::Held(slot::with_status(l, Status::Active)),
                 }
             } else {
                 slot

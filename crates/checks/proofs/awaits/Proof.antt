@@ -1,5 +1,5 @@
--- `checks::awaits` meets its contract: by what the slot holds. Assumes nothing.
-use Rattle.checks.proofs.Cases.{awaits-listed}
+-- `checks::awaits` meets its contract. By what the slot holds. Assumes nothing.
+use Rattle.checks.proofs.Cases.{awaits-held}
 use borrow.Author.Needs.{needs}
 use Rattle.checks.proofs.awaits.Statement.{statement}
 use Rattle.checks.proofs.awaits.Tie as tie
@@ -10,29 +10,20 @@ enum-told c = search needs
 enum-known-holding : tie.Need-enum-known-holding
 enum-known-holding c = search needs
 
-enum-told-2 : tie.Need-enum-told-2
-enum-told-2 c = search needs
-
-enum-told-3 : tie.Need-enum-told-3
-enum-told-3 c = search needs
-
-enum-told-4 : tie.Need-enum-told-4
-enum-told-4 c = search needs
+is-deprecated-requires : tie.Need-is-deprecated-requires
+is-deprecated-requires c κs = tt
 
 is-listed-requires : tie.Need-is-listed-requires
 is-listed-requires c κs = tt
+
+both-requires : tie.Need-both-requires
+both-requires c κs = tt
 
 returns : tie.Need-returns
 returns c = search needs
 
 returns-2 : tie.Need-returns-2
-returns-2 c = search needs
-
-returns-3 : tie.Need-returns-3
-returns-3 c = search needs
-
-returns-4 : tie.Need-returns-4
-returns-4 c = search awaits-listed
+returns-2 c = search awaits-held
 
 pub awaits-spec : {M : Type 1} → statement M
 awaits-spec =
@@ -40,11 +31,8 @@ awaits-spec =
     (tie.spec
     enum-told
     enum-known-holding
-    enum-told-2
-    enum-told-3
-    enum-told-4
+    is-deprecated-requires
     is-listed-requires
+    both-requires
     returns
-    returns-2
-    returns-3
-    returns-4)
+    returns-2)

@@ -1,4 +1,4 @@
--- `checks::with_check` meets its contract: by what the slot holds. Assumes nothing.
+-- `checks::with_check` meets its contract. By what the slot holds. Assumes nothing.
 use Rattle.slot.proofs.Cases.{on-empty, on-held}
 use borrow.Author.Needs.{needs}
 use Rattle.checks.proofs.with_check.Statement.{statement}
@@ -10,6 +10,9 @@ enum-told c = search needs
 enum-known-holding : tie.Need-enum-known-holding
 enum-known-holding c = search needs
 
+with-status-requires : tie.Need-with-status-requires
+with-status-requires c κs = tt
+
 returns : tie.Need-returns
 returns c = search on-empty
 
@@ -17,4 +20,5 @@ returns-2 : tie.Need-returns-2
 returns-2 c = search on-held
 
 pub with-check-spec : {M : Type 1} → statement M
-with-check-spec = tie.close (tie.spec enum-told enum-known-holding returns returns-2)
+with-check-spec =
+    tie.close (tie.spec enum-told enum-known-holding with-status-requires returns returns-2)

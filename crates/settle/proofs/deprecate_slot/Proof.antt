@@ -10,8 +10,8 @@ enum-told c = search needs
 enum-known-holding : tie.Need-enum-known-holding
 enum-known-holding c = search needs
 
-deprecate-requires : tie.Need-deprecate-requires
-deprecate-requires c κs = tt
+with-status-requires : tie.Need-with-status-requires
+with-status-requires c κs = tt
 
 returns : tie.Need-returns
 returns c = search on-empty
@@ -21,4 +21,4 @@ returns-2 c = search on-held
 
 pub deprecate-slot-spec : {M : Type 1} → statement M
 deprecate-slot-spec =
-    tie.close (tie.spec enum-told enum-known-holding deprecate-requires returns returns-2)
+    tie.close (tie.spec enum-told enum-known-holding with-status-requires returns returns-2)

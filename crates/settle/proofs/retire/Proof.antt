@@ -9,11 +9,11 @@ is-listed-requires c κs = tt
 returns : tie.Need-returns
 returns c = search chain
 
-deprecate-requires : tie.Need-deprecate-requires
-deprecate-requires c κs = tt
+with-status-requires : tie.Need-with-status-requires
+with-status-requires c κs = tt
 
 returns-2 : tie.Need-returns-2
 returns-2 c = search chain
 
 pub retire-spec : {M : Type 1} → statement M
-retire-spec = tie.close (tie.spec is-listed-requires returns deprecate-requires returns-2)
+retire-spec = tie.close (tie.spec is-listed-requires returns with-status-requires returns-2)

@@ -1,4 +1,4 @@
--- `slot::expire` meets its contract: by what the slot holds and its expiry. Assumes nothing.
+-- `slot::expire` meets its contract. By what the slot holds and its expiry. Assumes nothing.
 use Rattle.slot.proofs.Cases.{on-empty, expire-early, expire-late}
 use borrow.Author.Needs.{needs}
 use Rattle.slot.proofs.expire.Statement.{statement}
@@ -10,6 +10,9 @@ enum-told c = search needs
 enum-known-holding : tie.Need-enum-known-holding
 enum-known-holding c = search needs
 
+with-status-requires : tie.Need-with-status-requires
+with-status-requires c κs = tt
+
 returns : tie.Need-returns
 returns c = search on-empty
 
@@ -20,4 +23,6 @@ returns-3 : tie.Need-returns-3
 returns-3 c = search expire-early
 
 pub expire-spec : {M : Type 1} → statement M
-expire-spec = tie.close (tie.spec enum-told enum-known-holding returns returns-2 returns-3)
+expire-spec =
+    tie.close
+    (tie.spec enum-told enum-known-holding with-status-requires returns returns-2 returns-3)
