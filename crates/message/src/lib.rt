@@ -161,19 +161,19 @@ pub fn receive(
     ensures { λ r. ⌜ r ≡ messages.messageOf a (now (packet .entry)) authentic nonces (now (buffer .entry)) ⌝ }
     ensures { λ _. ⌜ now (buffer .exit) ≡ messages.bufferAfter a (now (packet .entry)) authentic nonces (now (buffer .entry)) ⌝ }
 {
-    // 0
+    // Refusal 0: no call makes such an association.
     if association::is_bad_association(a) {
         return declined(a, Refusal::BadAssociation);
     }
-    // 1
+    // Refusal 1: the buffer may not hold the reply.
     if judge::is_short_buffer(buffer.len()) {
         return declined(a, Refusal::ShortReplyBuffer);
     }
-    // 2
+    // Refusal 2: the host did not mark the message authentic.
     if judge::is_not_authentic(authentic) {
         return declined(a, Refusal::NotAuthentic);
     }
-    // 3 to 6
+    // Refusals 3 to 6: the packet's bytes.
     let reading = packet::read_packet(packet);
     let message = reading.message;
     let listed = reading.listed;
@@ -181,7 +181,7 @@ pub fn receive(
     match message {
         Message::Refused(why) => declined(a, why),
         Message::Reply(echo) => {
-            // 8
+            // Refusal 8: the echo response answers no check.
             if verify::is_unmatched(held, echo) {
                 declined(a, Refusal::UnmatchedEcho)
             } else {
@@ -197,26 +197,27 @@ pub fn receive(
             let unmatched = verify::is_unmatched(held, echo);
             let wrong_spi = judge::is_wrong_spi(a.outbound, m.old, m.new, listed, count);
             let nonce_taken = checks::is_repeated_nonce(nonces, held);
-            // 7, and Repeated
+            // Refusal 7: the Update ID is below the highest seen.
             if stale {
                 return declined(a, Refusal::StaleUpdateId);
             }
+            // It is the highest seen: Repeated.
             if repeat {
                 return repeated(a, m.id, buffer);
             }
-            // 8
+            // Refusal 8: the echo response answers no check.
             if unmatched {
                 return declined(a, Refusal::UnmatchedEcho);
             }
-            // 9
+            // Refusal 9: the SPIs.
             if wrong_spi {
                 return declined(a, Refusal::WrongSpi);
             }
-            // 10
+            // Refusal 10: the nonces are not new.
             if nonce_taken {
                 return declined(a, Refusal::RepeatedNonce);
             }
-            // 11
+            // Refusal 11: no own Update IDs are left for the checks that steps 1 to 5 bring.
             let placed = take_steps(a, m, listed);
             let slots = placed.slots;
             let checks = checks::count_checks(slots, listed, count);

@@ -1,6 +1,7 @@
 pub mod Sets
 pub mod Live
 pub mod Settled
+pub mod Either
 pub mod Placed
 pub mod Checked
 pub mod Room

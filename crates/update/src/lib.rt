@@ -1,5 +1,5 @@
 // The message call: refusals 0 to 11, what an accepted message leaves and what is written back. Depends on readdress, reply, association and packet.
-// Definitions and laws so far, and the types that they are about; no code.
+// Definitions, laws and the types that they are about. The code that meets them stands in the crates above.
 use association::Association;
 use refusal::Refusal;
 
