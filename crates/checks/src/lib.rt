@@ -1,4 +1,4 @@
-// New checks, and refusal 10. Depends on judge, listed, update, readdress, association, locator, locator_set, slot and boolean.
+// New checks, and refusal 10. Depends on judge, listed, update, readdress, reply, association, locator, locator_set, slot and boolean.
 use locator::ListedLocator;
 use locator_set::SET_LIMIT;
 use reply::NONCE_COUNT;
@@ -125,7 +125,7 @@ fn awaits(slot: Slot, listed: [ListedLocator; SET_LIMIT], count: usize) -> bool
     }
 }
 
-// The number of new checks.
+// The number of new checks, which is at most the count of slots.
 pub fn count_checks(
     slots: [Slot; SLOT_COUNT],
     listed: [ListedLocator; SET_LIMIT],

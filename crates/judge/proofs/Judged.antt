@@ -1,19 +1,11 @@
--- What the definitions say of a known highest Update ID, and of own Update IDs that are left. Assumes nothing.
+-- Refusal 11 without a sum that could overflow: by the own Update IDs that are left. Assumes nothing.
 use Prim.Native.Nat.{ℕ, _+_, _-_, _≤_, _<_}
 use mathlib.Core.Path.{_≡_, refl, sym, _∙_}
 use mathlib.Core.Bool.{Bool, true, false}
-use lib.Dec.{ltb, eqb}
+use lib.Dec.{ltb}
 use native.Mathlib.Omega.{arith}
 use borrow.Author.Tests.{ltb-true, ltb-false, lt-ltb, le-ltb}
-use Rattle.association.specs.declared.PeerId.{PeerId}
-use Rattle.association.specs.declared.PeerId.the-variants.{Highest}
-use Rattle.update.specs.Refusals.{refusal7, repeats, refusal11}
-
-pub stale : (id h : ℕ) (p : PeerId) → p ≡ Highest h → ltb id h ≡ refusal7 id p
-stale id h p e = simp e
-
-pub repeat : (id h : ℕ) (p : PeerId) → p ≡ Highest h → eqb id h ≡ repeats id p
-repeat id h p e = simp e
+use Rattle.update.specs.Refusals.{refusal11}
 
 -- the next own Update ID is over the limit already
 pub used-up : (next checks : ℕ) → 4294967296 < next → true ≡ refusal11 next checks

@@ -21,7 +21,7 @@ use Rattle.path.specs.Choices.{lowest}
 use Rattle.readdress.specs.declared.Placement.{Placement}
 use Rattle.readdress.specs.Steps.{isListed, isFree, dropped, placeAt, place, placeOther, placeAll, markedSlot}
 use Rattle.readdress.specs.Moves.{newPreference}
-use Rattle.place.specs.Placing.{numberOf}
+use Rattle.place.specs.Numbered.{numberOf}
 use Rattle.readdress.proofs.Sets.{SetLoop, set-loop, entry-first, entries-spent, entries-end}
 
 pub free-held : (listed : List ListedLocator) (s : Slot) (l : Locator) (d b r : Bool) → s .holding ≡ Held l → d ≡ isDeprecated (l .status) →

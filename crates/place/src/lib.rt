@@ -20,7 +20,8 @@ ghost use Rattle.path.specs.Choices.{lowest};
 ghost use Rattle.path.specs.declared.Choice.the-variants.{Chosen};
 ghost use Rattle.readdress.specs.Steps.{isFree, dropped, placeAt, place, placeOther, placeAll, markedSlot};
 ghost use Rattle.readdress.specs.Moves.{newPreference};
-ghost use Rattle.place.specs.Placing.{placedAt, numberOf};
+ghost use Rattle.place.specs.Placing.{placedAt};
+ghost use Rattle.place.specs.Numbered.{numberOf};
 
 // The slot is empty, or holds a DEPRECATED address that the set does not list.
 fn is_free(slot: Slot, listed: [ListedLocator; SET_LIMIT], count: usize) -> bool

@@ -16,6 +16,7 @@ ghost use lib.ListN.{length, getD};
 ghost use Rattle.octets.specs.Written.{bytesOf};
 ghost use Rattle.parameter.specs.Written.{parameterBytes};
 ghost use Rattle.writer.specs.Writes.{writtenAt};
+ghost use Rattle.reply.specs.Low.{fourBytes};
 ghost use Rattle.reply.specs.Replies.{checkSize, espInfoBytes, echoRequestBytes, ackBytes, checkBytes, checksBytes, moveBytes, fitted, overwritten};
 
 // The bytes of a parameter's type and length, and of each parameter that is written; an ACK's size is a SEQ's too.
@@ -120,7 +121,7 @@ fn put_check(buffer: &mut [u8], at: usize, inbound: u32, peer: u32, id: u32, non
 
 // The Update ID of check k as it is written, by its low four bytes. The first check's is `next`.
 fn id_at(next: u64, k: usize) -> u32
-    ensures { λ r. ⌜ r ≡ (next + k) % 4294967296 ⌝ }
+    ensures { λ r. ⌜ r ≡ (next + k) % fourBytes ⌝ }
 {
     ((next % FOUR_BYTES + k as u64 % FOUR_BYTES) % FOUR_BYTES) as u32
 }

@@ -2,7 +2,7 @@
 use Prim.Native.Nat.{ℕ, _+_, _≤_, _<_}
 use mathlib.Core.Path.{_≡_, refl, sym, ap, _∙_}
 use mathlib.Core.Bool.{Bool, true, false, cond}
-use mathlib.Core.List.{List, _++_, append-assoc}
+use mathlib.Core.List.{List, [], _∷_, _++_, append-assoc, append-nil}
 use lib.Dec.{leb}
 use lib.ListN.{length, take, drop, length-append, length-take, length-drop}
 use lib.Seq.{take-at, drop-at, drop-drop}
@@ -56,6 +56,35 @@ written-then at next x y buffer e h =
 pub written-more : (at next : ℕ) (x y buffer once twice : List ℕ) → next ≡ at + length x → next + length y ≤ length buffer
     → once ≡ writtenAt at x buffer → twice ≡ writtenAt next y once → twice ≡ writtenAt at (x ++ y) buffer
 written-more at next x y buffer once twice e h p q = q ∙ ap (λ (s : List ℕ). writtenAt next y s) p ∙ written-then at next x y buffer e h
+
+-- ---- parts one after another
+-- the bytes of all of them
+abbrev pub joined : (parts : List (List ℕ)) → List ℕ
+joined [] = []
+joined (x ∷ parts) = x ++ joined parts
+
+-- a buffer after each is written right after the one before, the first of them k after a place
+abbrev pub laid : (at k : ℕ) → (parts : List (List ℕ)) → (buffer : List ℕ) → List ℕ
+laid at k [] buffer = buffer
+laid at k (x ∷ parts) buffer = laid at (k + length x) parts (writtenAt (at + k) x buffer)
+
+laid-after : (at k : ℕ) (done : List ℕ) (parts : List (List ℕ)) (buffer : List ℕ) → k ≡ length done → at + length (done ++ joined parts) ≤ length buffer
+    → laid at k parts (writtenAt at done buffer) ≡ writtenAt at (done ++ joined parts) buffer
+laid-after at k done [] buffer e h = ap (λ (s : List ℕ). writtenAt at s buffer) (sym (append-nil done))
+laid-after at k done (x ∷ parts) buffer e h =
+    let whole = append-assoc done x (joined parts) in
+    let size = length-append done x in
+    let most = length-append (done ++ x) (joined parts) in
+    let room : at + length ((done ++ x) ++ joined parts) ≤ length buffer = rw whole h in
+    ap (λ (s : List ℕ). laid at (k + length x) parts s) (written-then at (at + k) done x buffer (omega arith) (omega arith))
+    ∙ laid-after at (k + length x) (done ++ x) parts buffer (omega arith) room
+    ∙ ap (λ (s : List ℕ). writtenAt at s buffer) whole
+
+-- they are written as a whole, where they all fit
+pub parts-written : (at : ℕ) (x : List ℕ) (parts : List (List ℕ)) (bytes buffer after : List ℕ) → x ++ joined parts ≡ bytes
+    → at + length bytes ≤ length buffer → after ≡ laid at (length x) parts (writtenAt at x buffer) → after ≡ writtenAt at bytes buffer
+parts-written at x parts bytes buffer after e h p =
+    p ∙ laid-after at (length x) x parts buffer refl (rw e h) ∙ ap (λ (s : List ℕ). writtenAt at s buffer) e
 
 -- bytes written at the start
 pub written-first : (bytes buffer : List ℕ) → length bytes ≤ length buffer → writtenAt 0 bytes buffer ≡ bytes ++ drop (length bytes) buffer

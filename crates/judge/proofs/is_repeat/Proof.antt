@@ -1,5 +1,6 @@
--- `judge::is_repeat` meets its contract. Assumes nothing.
-use Rattle.judge.proofs.Judged.{repeat}
+-- `judge::is_repeat` meets its contract. By the highest Update ID that was seen. Assumes nothing.
+use mathlib.Core.Path.{sym, ap}
+use Rattle.update.specs.Refusals.{repeats}
 use borrow.Author.Needs.{needs}
 use Rattle.judge.proofs.is_repeat.Statement.{statement}
 use Rattle.judge.proofs.is_repeat.Tie as tie
@@ -14,7 +15,7 @@ returns : tie.Need-returns
 returns c = search needs
 
 returns-2 : tie.Need-returns-2
-returns-2 c = search repeat
+returns-2 c = ap (repeats (c .before .before .before .args .id)) (sym (c .before .peer .given .1))
 
 pub is-repeat-spec : {M : Type 1} → statement M
 is-repeat-spec = tie.close (tie.spec enum-told enum-known-peer returns returns-2)
