@@ -8,12 +8,10 @@ use lib.ListN.{length, getD, drop}
 use borrow.Author.Tests.{ltb-false, eq-eqb, ne-eqb}
 use Rattle.octets.specs.Records.{some}
 use Rattle.locator.specs.declared.ListedLocator.{ListedLocator}
-use Rattle.slot.specs.declared.Check.{Check}
-use Rattle.slot.specs.declared.Status.the-variants.{Unverified}
 use Rattle.slot.specs.declared.Locator.{Locator}
 use Rattle.slot.specs.declared.Holding.the-variants.{Held}
 use Rattle.slot.specs.declared.Slot.{Slot}
-use Rattle.slot.specs.Found.{isNonce, heldAs, isDeprecated}
+use Rattle.slot.specs.Found.{isDeprecated}
 use Rattle.slots.proofs.Loops.{Loop, loop, or-cond, some-loop}
 use Rattle.readdress.specs.Steps.{isListed}
 use Rattle.readdress.specs.Checks.{twice, awaits, checkCount, checked}
@@ -34,10 +32,6 @@ offered-hit d nonce xs j whole e h p q = some-loop (eqb nonce) .hit xs 8 j d who
 pub offered-miss : (d nonce : ℕ) (xs : List ℕ) (j : ℕ) (whole : Bool) → length xs ≡ 8 → j < 8 → whole ≡ some (eqb nonce) (drop j xs) →
     (nonce ≡ getD xs j d → ⊥) → whole ≡ some (eqb nonce) (drop (j + 1) xs)
 offered-miss d nonce xs j whole e h p q = some-loop (eqb nonce) .miss xs 8 j d whole (eqb nonce (getD xs j d)) e h p refl (ne-eqb nonce (getD xs j d) q)
-
-pub nonce-held : (nonce : ℕ) (s : Slot) (l : Locator) (k : Check) → s .holding ≡ Held l → l .status ≡ Unverified k →
-    eqb nonce (k .nonce) ≡ heldAs (isNonce nonce) s
-nonce-held nonce s l k p q = simp (p, q)
 
 pub awaits-held : (listed : List ListedLocator) (s : Slot) (l : Locator) (d b r : Bool) → s .holding ≡ Held l → d ≡ isDeprecated (l .status) →
     b ≡ isListed (l .address) listed → r ≡ (d && b) → r ≡ awaits listed s

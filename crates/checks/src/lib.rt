@@ -1,4 +1,5 @@
-// New checks, and refusal 10. Depends on judge, listed, update, readdress, reply, association, locator, locator_set, slot and boolean.
+// New checks, and refusal 10. Depends on judge, listed, update, readdress, reply, association, locator,
+// locator_set, slots, slot and boolean.
 use locator::ListedLocator;
 use locator_set::SET_LIMIT;
 use reply::NONCE_COUNT;
@@ -14,7 +15,8 @@ ghost use lib.ListN.{take, drop};
 ghost use Rattle.octets.specs.Records.{some};
 ghost use Rattle.slot.specs.declared.Locator as locators;
 ghost use Rattle.slot.specs.declared.Status.the-variants.{Unverified};
-ghost use Rattle.slot.specs.Found.{withStatus, onLocator, isNonce, heldAs, slotCount};
+ghost use Rattle.slot.specs.Found.{withStatus, onLocator, slotCount};
+ghost use Rattle.slots.specs.Rules.{isOutstanding};
 ghost use Rattle.association.specs.Form.{idLimit};
 ghost use Rattle.readdress.specs.Checks as rules;
 ghost use Rattle.checks.specs.Given.{given};
@@ -50,49 +52,15 @@ fn any_twice(nonces: [u64; NONCE_COUNT]) -> bool
     false
 }
 
-// The locator in the slot has a check with this nonce.
-fn has_nonce(slot: Slot, nonce: u64) -> bool
-    ensures { λ r. ⌜ r ≡ heldAs (isNonce nonce) slot ⌝ }
-{
-    let holding = slot.holding;
-    match holding {
-        Holding::Empty => false,
-        Holding::Held(l) => {
-            let status = l.status;
-            match status {
-                Status::Unverified(k) => nonce == k.nonce,
-                Status::Active => false,
-                Status::Deprecated => false,
-            }
-        }
-    }
-}
-
-// The nonce is outstanding.
-fn is_outstanding(slots: [Slot; SLOT_COUNT], nonce: u64) -> bool
-    ensures { λ r. ⌜ r ≡ rules.isOutstanding slots nonce ⌝ }
-{
-    let held = slots;
-    let mut i: usize = 0;
-    while i < SLOT_COUNT {
-        let slot = held[i];
-        if has_nonce(slot, nonce) {
-            return true;
-        }
-        i += 1;
-    }
-    false
-}
-
 // One of the nonces is outstanding.
 fn any_outstanding(nonces: [u64; NONCE_COUNT], slots: [Slot; SLOT_COUNT]) -> bool
-    ensures { λ r. ⌜ r ≡ some (rules.isOutstanding slots) nonces ⌝ }
+    ensures { λ r. ⌜ r ≡ some (isOutstanding slots) nonces ⌝ }
 {
     let offered = nonces;
     let mut i: usize = 0;
     while i < NONCE_COUNT {
         let nonce = offered[i];
-        if is_outstanding(slots, nonce) {
+        if slots::is_outstanding(slots, nonce) {
             return true;
         }
         i += 1;

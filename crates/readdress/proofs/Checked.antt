@@ -23,7 +23,8 @@ use Rattle.slot.specs.declared.Slot.{Slot}
 use Rattle.slot.specs.declared.Status.{Status}
 use Rattle.slot.specs.declared.Status.the-variants.{Unverified, Active, Deprecated}
 use Rattle.slots.proofs.Each.{All, Pairs, none-all, all-both}
-use Rattle.readdress.specs.Checks.{awaits, checkCount, checkedBy, withCheck, checked, twice, isOutstanding, refusal10, awaitsHeld, checkFor}
+use Rattle.slots.specs.Rules.{isOutstanding}
+use Rattle.readdress.specs.Checks.{awaits, checkCount, checkedBy, withCheck, checked, twice, refusal10, awaitsHeld, checkFor}
 use Rattle.readdress.specs.Steps.{isListed}
 use Rattle.readdress.proofs.Live.{live}
 

@@ -15,7 +15,8 @@ use Rattle.slot.specs.declared.Locator.{Locator}
 use Rattle.slot.specs.declared.Holding.{Holding}
 use Rattle.slot.specs.declared.Holding.the-variants.{Empty, Held}
 use Rattle.slot.specs.declared.Slot.{Slot}
-use Rattle.slot.specs.Found.{withStatus, onLocator, holds, isDeprecated, isNonce, heldAs}
+use Rattle.slot.specs.Found.{withStatus, onLocator, holds, isDeprecated}
+use Rattle.slots.specs.Rules.{isOutstanding}
 use Rattle.readdress.specs.Steps.{isListed}
 
 -- "eight nonces of 8 bytes"
@@ -63,10 +64,6 @@ nonceTaken x listed nonces ss = Option·map (λ (k : ℕ). getD nonces k 0) (che
 unfoldable pub twice : List ℕ → Bool
 twice [] = false
 twice (n ∷ ns) = records.some (eqb n) ns || twice ns
-
--- the nonce is outstanding
-abbrev pub isOutstanding : List Slot → (nonce : ℕ) → Bool
-isOutstanding ss nonce = records.some (heldAs (isNonce nonce)) ss
 
 -- refusal 10: "the 8 offered nonces not distinct from each other and from those outstanding before"
 abbrev pub refusal10 : (nonces : List ℕ) → List Slot → Bool

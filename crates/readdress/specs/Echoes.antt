@@ -1,16 +1,16 @@
 -- Step 1, and refusal 8: an echo response against the nonces that are outstanding.
 use Prim.Native.Nat.{ℕ}
 use lib.Dec.{eqb}
-use mathlib.Core.Bool.{Bool, true, false, not, cond, _&&_}
+use mathlib.Core.Bool.{Bool, true, false, not, cond}
 use mathlib.Core.List.{List, map}
-use Rattle.octets.specs.Records.{some}
 use Rattle.packet.specs.declared.EchoResponse.{EchoResponse}
 use Rattle.packet.specs.declared.EchoResponse.the-variants.{Absent, Nonce, OtherLength}
 use Rattle.slot.specs.declared.Status.{Status}
 use Rattle.slot.specs.declared.Status.the-variants.{Unverified, Active, Deprecated}
 use Rattle.slot.specs.declared.Locator.{Locator}
 use Rattle.slot.specs.declared.Slot.{Slot}
-use Rattle.slot.specs.Found.{withStatus, onLocator, heldAs}
+use Rattle.slot.specs.Found.{withStatus, onLocator}
+use Rattle.slots.specs.Rules.{isOutstanding}
 
 -- "An echo response of 8 bytes equal to" this nonce
 abbrev pub echoes : EchoResponse → (nonce : ℕ) → Bool
@@ -36,12 +36,8 @@ verifyLocator e l = withStatus l (verifyStatus e (l .status))
 unfoldable pub verifyAll : EchoResponse → List Slot → List Slot
 verifyAll e ss = map (onLocator (verifyLocator e)) ss
 
--- there is an echo response
-abbrev pub isPresent : EchoResponse → Bool
-isPresent Absent = false
-isPresent (Nonce n) = true
-isPresent OtherLength = true
-
--- refusal 8: "echo response matches no outstanding nonce"
+-- refusal 8: "echo response matches no outstanding nonce". One that is not 8 bytes long matches none
 abbrev pub refusal8 : EchoResponse → List Slot → Bool
-refusal8 e ss = isPresent e && not (some (heldAs (answers e)) ss)
+refusal8 Absent ss = false
+refusal8 (Nonce n) ss = not (isOutstanding ss n)
+refusal8 OtherLength ss = true

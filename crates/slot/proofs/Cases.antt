@@ -12,7 +12,7 @@ use Rattle.slot.specs.declared.Locator.{Locator}
 use Rattle.slot.specs.declared.Holding.{Holding}
 use Rattle.slot.specs.declared.Holding.the-variants.{Empty, Held}
 use Rattle.slot.specs.declared.Slot.{Slot}
-use Rattle.slot.specs.Found.{slotOf, withStatus, onHeld, onLocator}
+use Rattle.slot.specs.Found.{slotOf, withStatus, onHeld, onLocator, isNonce, heldAs}
 use Rattle.slot.specs.Clashes.{sameNonce, clash}
 use Rattle.slot.specs.Expiry.{expireLocator, expireSlot}
 
@@ -31,6 +31,10 @@ pub clash-held : (x y : Slot) (l m : Locator) (a b r : Bool) → x .holding ≡ 
     a ≡ sameAddress (l .address) (m .address) → b ≡ sameNonce (l .status) (m .status) → r ≡ (a || b) → r ≡ clash x y
 unfolding clash
 clash-held x y l m a b r p q u v w = rw (w, u, v, p, q)
+
+pub nonce-held : (nonce : ℕ) (s : Slot) (l : Locator) (k : Check) → s .holding ≡ Held l → l .status ≡ Unverified k →
+    eqb nonce (k .nonce) ≡ heldAs (isNonce nonce) s
+nonce-held nonce s l k p q = simp (p, q)
 
 -- a slot is its holding
 abbrev slotWith : Holding → Slot

@@ -1,7 +1,7 @@
 // A slot and the locator that it holds: its status, its expiry, and what two slots may not share. Depends on address and boolean.
 use address::Address;
 ghost use mathlib.Core.Path.{_≡_};
-ghost use Rattle.slot.specs.Found.{withStatus, isDeprecated};
+ghost use Rattle.slot.specs.Found.{withStatus, isDeprecated, isNonce, heldAs};
 ghost use Rattle.slot.specs.Clashes.{sameNonce, clash};
 ghost use Rattle.slot.specs.Expiry.{expireSlot};
 
@@ -59,6 +59,24 @@ pub fn is_deprecated(status: Status) -> bool
         Status::Unverified(_) => false,
         Status::Active => false,
         Status::Deprecated => true,
+    }
+}
+
+// The locator in the slot has a check with this nonce.
+pub fn has_nonce(slot: Slot, nonce: u64) -> bool
+    ensures { λ r. ⌜ r ≡ heldAs (isNonce nonce) slot ⌝ }
+{
+    let holding = slot.holding;
+    match holding {
+        Holding::Empty => false,
+        Holding::Held(l) => {
+            let status = l.status;
+            match status {
+                Status::Unverified(k) => nonce == k.nonce,
+                Status::Active => false,
+                Status::Deprecated => false,
+            }
+        }
     }
 }
 

@@ -3,6 +3,7 @@ use Prim.Native.Nat.{ℕ}
 use mathlib.Core.Bool.{Bool, false, _||_}
 use mathlib.Core.List.{List, [], _∷_, map}
 use Rattle.octets.specs.Records.{some}
+use Rattle.slot.specs.Found.{isNonce, heldAs}
 use Rattle.slot.specs.Clashes.{clash}
 use Rattle.slot.specs.Expiry.{expireSlot}
 use Rattle.slot.specs.declared.Slot.{Slot}
@@ -15,3 +16,7 @@ clashing (s ∷ ss) = some (clash s) ss || clashing ss
 -- "Locators with time at or past expiry turn DEPRECATED."
 abbrev pub expireAll : (time : ℕ) → List Slot → List Slot
 expireAll time slots = map (expireSlot time) slots
+
+-- the nonce is outstanding: a locator that is held is UNVERIFIED, and its check has the nonce
+abbrev pub isOutstanding : List Slot → (nonce : ℕ) → Bool
+isOutstanding ss nonce = some (heldAs (isNonce nonce)) ss

@@ -1,4 +1,4 @@
-// The slots of an association, all of them: whether two clash, and their expiry. Depends on slot.
+// The slots of an association, all of them: whether two clash, their expiry, and which nonces are outstanding. Depends on slot.
 // The functions take the slots and not the association, so that they serve an association with several sets of slots.
 use slot::SLOT_COUNT;
 use slot::Slot;
@@ -6,7 +6,7 @@ ghost use mathlib.Core.Path.{_≡_};
 ghost use lib.ListN.{drop};
 ghost use Rattle.octets.specs.Records.{some};
 ghost use Rattle.slot.specs.Clashes.{clash};
-ghost use Rattle.slots.specs.Rules.{clashing, expireAll};
+ghost use Rattle.slots.specs.Rules.{clashing, expireAll, isOutstanding};
 
 // The slot clashes with one of those from `start` on.
 fn clashes_from(slots: [Slot; SLOT_COUNT], slot: Slot, start: usize) -> bool
@@ -52,4 +52,20 @@ pub fn expire_all(slots: [Slot; SLOT_COUNT], time: u64) -> [Slot; SLOT_COUNT]
         i += 1;
     }
     held
+}
+
+// The nonce is outstanding.
+pub fn is_outstanding(slots: [Slot; SLOT_COUNT], nonce: u64) -> bool
+    ensures { λ r. ⌜ r ≡ isOutstanding slots nonce ⌝ }
+{
+    let held = slots;
+    let mut i: usize = 0;
+    while i < SLOT_COUNT {
+        let slot = held[i];
+        if slot::has_nonce(slot, nonce) {
+            return true;
+        }
+        i += 1;
+    }
+    false
 }

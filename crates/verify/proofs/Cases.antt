@@ -1,7 +1,8 @@
 -- What the definitions say of an echo response, a status and a slot whose case is known. Assumes nothing.
 use Prim.Native.Nat.{ℕ}
 use mathlib.Core.Path.{_≡_, _∙_}
-use mathlib.Core.Bool.{Bool, true, false}
+use mathlib.Core.Bool.{Bool, true, false, not}
+use mathlib.Core.List.{List}
 use lib.Dec.{eqb}
 use Rattle.packet.specs.declared.EchoResponse.{EchoResponse}
 use Rattle.packet.specs.declared.EchoResponse.the-variants.{Nonce}
@@ -11,9 +12,10 @@ use Rattle.slot.specs.declared.Status.the-variants.{Unverified, Active}
 use Rattle.slot.specs.declared.Locator.{Locator}
 use Rattle.slot.specs.declared.Holding.the-variants.{Held}
 use Rattle.slot.specs.declared.Slot.{Slot}
-use Rattle.slot.specs.Found.{slotOf, withStatus, onLocator, heldAs}
+use Rattle.slot.specs.Found.{slotOf, withStatus, onLocator}
+use Rattle.slots.specs.Rules.{isOutstanding}
 use Rattle.slot.proofs.Cases.{on-held, on-kept}
-use Rattle.readdress.specs.Echoes.{echoes, answers, verifyLocator}
+use Rattle.readdress.specs.Echoes.{echoes, answers, verifyLocator, refusal8}
 
 pub echoes-nonce : (e : EchoResponse) (n nonce : ℕ) → e ≡ Nonce n → eqb n nonce ≡ echoes e nonce
 echoes-nonce e n nonce p = simp p
@@ -21,9 +23,8 @@ echoes-nonce e n nonce p = simp p
 pub answers-check : (e : EchoResponse) (s : Status) (k : Check) (b : Bool) → s ≡ Unverified k → b ≡ echoes e (k .nonce) → b ≡ answers e s
 answers-check e s k b p q = q ∙ simp p
 
-pub answered-held : (e : EchoResponse) (s : Slot) (l : Locator) (b : Bool) → s .holding ≡ Held l → b ≡ answers e (l .status) →
-    b ≡ heldAs (answers e) s
-answered-held e s l b p q = q ∙ simp p
+pub unmatched-nonce : (e : EchoResponse) (ss : List Slot) (n : ℕ) (b : Bool) → e ≡ Nonce n → b ≡ isOutstanding ss n → not b ≡ refusal8 e ss
+unmatched-nonce e ss n b p q = rw (p, q)
 
 pub verify-hit : (e : EchoResponse) (s : Slot) (l m : Locator) (b : Bool) → s .holding ≡ Held l → b ≡ answers e (l .status) → b ≡ true →
     m ≡ withStatus l Active → slotOf m ≡ onLocator (verifyLocator e) s

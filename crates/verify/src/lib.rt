@@ -1,12 +1,11 @@
-// Step 1, and refusal 8: an echo response against the checks that are out. Depends on readdress, packet, slot and boolean.
+// Step 1, and refusal 8: an echo response against the checks that are out. Depends on readdress, packet, slots and slot.
 use packet::EchoResponse;
 use slot::Holding;
 use slot::SLOT_COUNT;
 use slot::Slot;
 use slot::Status;
 ghost use mathlib.Core.Path.{_≡_};
-ghost use Rattle.octets.specs.Records.{some};
-ghost use Rattle.slot.specs.Found.{onLocator, heldAs};
+ghost use Rattle.slot.specs.Found.{onLocator};
 ghost use Rattle.readdress.specs.Echoes as rules;
 
 // An echo response of 8 bytes that is the nonce.
@@ -51,47 +50,6 @@ fn verify_slot(slot: Slot, echo: EchoResponse) -> Slot
     }
 }
 
-// The echo response answers the check of the locator in the slot.
-fn is_answered(slot: Slot, echo: EchoResponse) -> bool
-    ensures { λ r. ⌜ r ≡ heldAs (rules.answers echo) slot ⌝ }
-{
-    let holding = slot.holding;
-    match holding {
-        Holding::Empty => false,
-        Holding::Held(l) => {
-            let status = l.status;
-            answers(echo, status)
-        }
-    }
-}
-
-// It answers the check of one of the slots.
-fn any_answered(slots: [Slot; SLOT_COUNT], echo: EchoResponse) -> bool
-    ensures { λ r. ⌜ r ≡ some (heldAs (rules.answers echo)) slots ⌝ }
-{
-    let held = slots;
-    let mut i: usize = 0;
-    while i < SLOT_COUNT {
-        let slot = held[i];
-        if is_answered(slot, echo) {
-            return true;
-        }
-        i += 1;
-    }
-    false
-}
-
-// There is an echo response.
-fn is_present(echo: EchoResponse) -> bool
-    ensures { λ r. ⌜ r ≡ rules.isPresent echo ⌝ }
-{
-    match echo {
-        EchoResponse::Absent => false,
-        EchoResponse::Nonce(_) => true,
-        EchoResponse::OtherLength => true,
-    }
-}
-
 // Step 1: the slots after the echo response.
 pub fn verify_all(slots: [Slot; SLOT_COUNT], echo: EchoResponse) -> [Slot; SLOT_COUNT]
     ensures { λ r. ⌜ r ≡ rules.verifyAll echo slots ⌝ }
@@ -110,5 +68,9 @@ pub fn verify_all(slots: [Slot; SLOT_COUNT], echo: EchoResponse) -> [Slot; SLOT_
 pub fn is_unmatched(slots: [Slot; SLOT_COUNT], echo: EchoResponse) -> bool
     ensures { λ r. ⌜ r ≡ rules.refusal8 echo slots ⌝ }
 {
-    boolean::both(is_present(echo), !any_answered(slots, echo))
+    match echo {
+        EchoResponse::Absent => false,
+        EchoResponse::Nonce(n) => !slots::is_outstanding(slots, n),
+        EchoResponse::OtherLength => true,
+    }
 }

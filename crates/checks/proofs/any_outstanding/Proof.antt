@@ -1,7 +1,7 @@
 -- `checks::any_outstanding` meets its contract. The loop: the nonces from i on decide. Assumes nothing.
 use Prim.Native.Nat.{_-_}
 use Rattle.octets.specs.Records.{some}
-use Rattle.readdress.specs.Checks.{isOutstanding}
+use Rattle.slots.specs.Rules.{isOutstanding}
 use Rattle.slots.proofs.Loops.{some-loop}
 use lib.ListN.{drop}
 use mathlib.Core.Path.{_≡_, refl}

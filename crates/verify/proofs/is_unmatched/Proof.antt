@@ -1,19 +1,38 @@
--- `verify::is_unmatched` meets its contract. Assumes nothing.
+-- `verify::is_unmatched` meets its contract. By the echo response. Assumes nothing.
+use Rattle.verify.proofs.Cases.{unmatched-nonce}
+use borrow.Author.Needs.{needs}
 use Rattle.verify.proofs.is_unmatched.Statement.{statement}
 use Rattle.verify.proofs.is_unmatched.Tie as tie
 
-is-present-requires : tie.Need-is-present-requires
-is-present-requires c κs = tt
+enum-told : tie.Need-enum-told
+enum-told c = search needs
 
-any-answered-requires : tie.Need-any-answered-requires
-any-answered-requires c κs = tt
+enum-known-echo : tie.Need-enum-known-echo
+enum-known-echo c = search needs
 
-both-requires : tie.Need-both-requires
-both-requires c κs = tt
+is-outstanding-requires : tie.Need-is-outstanding-requires
+is-outstanding-requires c κs = tt
+
+enum-told-2 : tie.Need-enum-told-2
+enum-told-2 c = search needs
 
 returns : tie.Need-returns
-returns c = rw (c .both .ensures, c .before .any-answered .ensures, c .before .before .is-present .ensures)
+returns c = search needs
+
+returns-2 : tie.Need-returns-2
+returns-2 c = search unmatched-nonce
+
+returns-3 : tie.Need-returns-3
+returns-3 c = search needs
 
 pub is-unmatched-spec : {M : Type 1} → statement M
 is-unmatched-spec =
-    tie.close (tie.spec is-present-requires any-answered-requires both-requires returns)
+    tie.close
+    (tie.spec
+    enum-told
+    enum-known-echo
+    is-outstanding-requires
+    enum-told-2
+    returns
+    returns-2
+    returns-3)

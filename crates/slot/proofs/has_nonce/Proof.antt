@@ -1,8 +1,8 @@
--- `checks::has_nonce` meets its contract: by what the slot holds. Assumes nothing.
-use Rattle.checks.proofs.Cases.{nonce-held}
+-- `slot::has_nonce` meets its contract: by what the slot holds. Assumes nothing.
+use Rattle.slot.proofs.Cases.{nonce-held}
 use borrow.Author.Needs.{needs}
-use Rattle.checks.proofs.has_nonce.Statement.{statement}
-use Rattle.checks.proofs.has_nonce.Tie as tie
+use Rattle.slot.proofs.has_nonce.Statement.{statement}
+use Rattle.slot.proofs.has_nonce.Tie as tie
 
 enum-told : tie.Need-enum-told
 enum-told c = search needs

@@ -1,13 +1,13 @@
--- `checks::is_outstanding` meets its contract. The loop: the slots from i on decide. Assumes nothing.
+-- `slots::is_outstanding` meets its contract. The loop: the slots from i on decide. Assumes nothing.
 use Prim.Native.Nat.{_-_}
 use Rattle.octets.specs.Records.{some}
 use Rattle.slot.specs.Found.{isNonce, heldAs}
 use Rattle.slots.proofs.Loops.{some-loop}
 use lib.ListN.{drop}
 use mathlib.Core.Path.{_≡_, refl}
 use native.Mathlib.Omega.{arith}
-use Rattle.checks.proofs.is_outstanding.Statement.{statement}
-use Rattle.checks.proofs.is_outstanding.Tie as tie
+use Rattle.slots.proofs.is_outstanding.Statement.{statement}
+use Rattle.slots.proofs.is_outstanding.Tie as tie
 
 abbrev Inv-loop : tie.InvT-loop
 Inv-loop nonce held i₀ i = some (heldAs (isNonce nonce)) held ≡ some (heldAs (isNonce nonce)) (drop i held)
