@@ -13,10 +13,14 @@ use Rattle.frame.specs.Header.{headerSize}
 abbrev pub parameters : List ℕ → List Parameter
 parameters s = records (parameterAt s) (λ (p : Parameter). p .next) (length s) (length s) headerSize
 
--- "Types never fall along the packet": some type is below the one before it, the first below `last`
+-- "Types never fall along the packet": the type of p is below `last`, the one before it
+abbrev pub fallsBelow : (last : ℕ) → Parameter → Bool
+fallsBelow last p = ltb (p .kind) last
+
+-- some type is below the one before it, the first below `last`
 unfoldable pub falls : (last : ℕ) → List Parameter → Bool
 falls last [] = false
-falls last (p ∷ ps) = ltb (p .kind) last || falls (p .kind) ps
+falls last (p ∷ ps) = fallsBelow last p || falls (p .kind) ps
 
 -- refusal 3 by the parameters ps, which follow one of type `last`
 abbrev pub illFormed : List ℕ → (last : ℕ) → List Parameter → Bool

@@ -9,7 +9,7 @@ ghost use Rattle.frame.specs.Survey.{again, counted, walkOf};
 ghost use Rattle.frame.specs.Turn.{noted};
 
 // The header: its size, and what stands in it.
-const HEADER_SIZE: usize = 40;
+pub const HEADER_SIZE: usize = 40;
 
 const NO_NEXT_HEADER: u8 = 59;
 
