@@ -1,0 +1,3 @@
+pub mod Readers
+pub mod Through
+pub mod Examples
