@@ -1,3 +1,4 @@
 pub mod Answers
+pub mod Formed
 pub mod Turns
 pub mod Within

@@ -1,13 +1,12 @@
 -- The walk over the parameters, turn by turn. Assumes nothing.
 use mathlib.Core.Path.{_≡_, refl, ap, sym, _∙_}
-use mathlib.Core.Bool.{Bool, true, false, cond, _||_, or-true}
+use mathlib.Core.Bool.{Bool, true, false, cond, _||_}
 use mathlib.Core.List.{List, [], _∷_}
 use Prim.Native.Nat.{ℕ, _-_, _<_, _≤_}
 use native.Mathlib.Omega.{arith}
-use lib.Dec.{ltb}
 use lib.ListN.{length}
 use borrow.Author.Tests.{lt-ltb, le-ltb}
-use Rattle.boolean.proofs.Laws.{or-false-left, or-false-right}
+use Rattle.boolean.proofs.Laws.{or-true}
 use Rattle.refusal.specs.declared.Refusal.{Refusal}
 use Rattle.refusal.specs.Table.{refusal}
 use Rattle.octets.specs.Records.{some, records}
@@ -21,8 +20,9 @@ use Rattle.parameter.specs.declared.Step.{Step}
 use Rattle.parameter.specs.declared.Step.the-variants.{Found, End, Refused}
 use Rattle.frame.specs.Header.{headerSize, headerHolds}
 use Rattle.parameter.specs.Types.{espInfo, locatorSet, seq, ack, echoResponseSigned}
-use Rattle.parameter.specs.Parameters.{parameterAt, pastEnd, wrong, stepAt, broken}
-use Rattle.frame.specs.Parameters.{falls, illFormed}
+use Rattle.parameter.specs.Parameters.{parameterAt, stepAt, broken}
+use Rattle.frame.specs.Parameters.{fallsBelow, falls, illFormed, illAfter}
+use Rattle.frame.proofs.Formed.{ill-first}
 use Rattle.frame.specs.Survey.{never, occurs, refused, walkOf}
 use Rattle.frame.specs.Turn.{noted}
 
@@ -53,24 +53,13 @@ unknown-on n true false = refl
 unknown-on n false x = refl
 
 module _ (s : List ℕ) (last : ℕ) (seen : Survey) (p : Parameter) (ps : List Parameter) where
-  judged-broken : broken s p ≡ true → judged s last seen (p ∷ ps) ≡ Rejected (refusal 3)
-  unfolding judged some falls
-  judged-broken h = go (pastEnd s p) (wrong p) h
-    where
-      go : (a b : Bool) → (a || b) ≡ true
-          → cond ((a || some (pastEnd s) ps) || ((ltb (p .kind) last || falls (p .kind) ps) || (b || some wrong ps))) (Rejected (refusal 3)) (Complete (surveyed seen (p ∷ ps))) ≡ Rejected (refusal 3)
-      go true b e = refl
-      go false true e = simp or-true
-      go false false e = cc
+  judged-ill : illAfter s last p ≡ true → judged s last seen (p ∷ ps) ≡ Rejected (refusal 3)
+  unfolding judged
+  judged-ill h = rw (ill-first, h)
 
-  judged-falls : ltb (p .kind) last ≡ true → judged s last seen (p ∷ ps) ≡ Rejected (refusal 3)
-  unfolding judged falls
-  judged-falls h = simp (h, or-true)
-
-  judged-on : pastEnd s p ≡ false → wrong p ≡ false → ltb (p .kind) last ≡ false
-      → judged s last seen (p ∷ ps) ≡ judged s (p .kind) (noted seen (p .kind) (p .body) (p .len)) ps
-  unfolding judged some falls occurs
-  judged-on a b f = simp (a, b, f, unknown-on)
+  judged-on : illAfter s last p ≡ false → judged s last seen (p ∷ ps) ≡ judged s (p .kind) (noted seen (p .kind) (p .body) (p .len)) ps
+  unfolding judged some occurs
+  judged-on h = rw (ill-first, h) (simp unknown-on)
 
 -- what holds at the loop's head: the parameters from `at` on, after what was seen, give the walk's answer
 pub record Walking (s : List ℕ) (seen : Survey) (last at : ℕ) : Type 0 where
@@ -103,7 +92,8 @@ module _ (s : List ℕ) (seen : Survey) (last at : ℕ) (w : Walking s seen last
   pub refuses : {why : Refusal} → r ≡ Refused why → Rejected why ≡ walkOf s
   refuses e =
       let q = at-refused s at g e in
-      ap Rejected (q .1 .1) ∙ (sym (judged-broken s last seen (parameterAt s at) _ (q .1 .0)) ∙ front (q .0))
+      let ill : illAfter s last (parameterAt s at) ≡ true = rw (q .1 .0) in
+      ap Rejected (q .1 .1) ∙ (sym (judged-ill s last seen (parameterAt s at) _ ill) ∙ front (q .0))
 
   pub nearer : {p : Parameter} → r ≡ Found p → length s - p .next < length s - at
   nearer e = let q = at-found s at g e in rw (q .1 .1) (omega (arith, q .0))
@@ -111,7 +101,8 @@ module _ (s : List ℕ) (seen : Survey) (last at : ℕ) (w : Walking s seen last
   pub refuses-fall : {p : Parameter} → r ≡ Found p → p .kind < last → Rejected (refusal 3) ≡ walkOf s
   refuses-fall e f =
       let q = at-found s at g e in
-      sym (judged-falls s last seen (parameterAt s at) _ (lt-ltb _ _ (rw (q .1 .1) at f))) ∙ front (q .0)
+      let ill = or-true (broken s (parameterAt s at)) (fallsBelow last (parameterAt s at)) (lt-ltb _ _ (rw (q .1 .1) at f)) in
+      sym (judged-ill s last seen (parameterAt s at) _ ill) ∙ front (q .0)
 
   goes-at : at < length s → broken s (parameterAt s at) ≡ false → last ≤ parameterAt s at .kind
       → Walking s (noted seen (parameterAt s at .kind) (parameterAt s at .body) (parameterAt s at .len)) (parameterAt s at .kind) (parameterAt s at .next)
@@ -119,7 +110,7 @@ module _ (s : List ℕ) (seen : Survey) (last at : ℕ) (w : Walking s seen last
     steps = w .steps - 1;
     enough = omega (arith, w .enough);
     same =
-        sym (judged-on s last seen (parameterAt s at) _ (or-false-left (pastEnd s (parameterAt s at)) (wrong (parameterAt s at)) b) (or-false-right (pastEnd s (parameterAt s at)) (wrong (parameterAt s at)) b) (le-ltb _ _ f))
+        (let well : illAfter s last (parameterAt s at) ≡ false = rw (b, le-ltb _ _ f) in sym (judged-on s last seen (parameterAt s at) _ well))
         ∙ front h;
   }
 

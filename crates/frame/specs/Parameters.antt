@@ -5,7 +5,7 @@ use mathlib.Core.List.{List, [], _∷_}
 use lib.Dec.{ltb}
 use lib.ListN.{length}
 use Rattle.octets.specs.Records.{records, some}
-use Rattle.parameter.specs.Parameters.{parameterAt, pastEnd, wrong}
+use Rattle.parameter.specs.Parameters.{parameterAt, pastEnd, wrong, broken}
 use Rattle.parameter.specs.declared.Parameter.{Parameter}
 use Rattle.frame.specs.Header.{headerSize}
 
@@ -25,3 +25,7 @@ falls last (p ∷ ps) = fallsBelow last p || falls (p .kind) ps
 -- refusal 3 by the parameters ps, which follow one of type `last`
 abbrev pub illFormed : List ℕ → (last : ℕ) → List Parameter → Bool
 illFormed s last ps = some (pastEnd s) ps || (falls last ps || some wrong ps)
+
+-- refusal 3 by one parameter, which follows one of type `last`
+abbrev pub illAfter : List ℕ → (last : ℕ) → Parameter → Bool
+illAfter s last p = broken s p || fallsBelow last p

@@ -1,6 +1,6 @@
 -- A new reader, stepped to its end, gives the packet's parameters in order, or refusal 3 where it holds by a parameter. Assumes nothing.
 use mathlib.Core.Path.{_≡_, refl, ap, sym, _∙_}
-use mathlib.Core.Bool.{Bool, true, false, cond, _||_, or-true}
+use mathlib.Core.Bool.{Bool, true, false, cond, _||_}
 use mathlib.Core.List.{List, [], _∷_, _++_, map}
 use Prim.Native.Nat.{ℕ, zero, suc, _-_, _<_, _≤_}
 use native.Mathlib.Omega.{arith}
@@ -15,31 +15,21 @@ use Rattle.octets.proofs.Runs.{records-more, records-none}
 use Rattle.parameter.specs.declared.Parameter.{Parameter}
 use Rattle.parameter.specs.declared.Step.{Step}
 use Rattle.parameter.specs.declared.Step.the-variants.{Found, End, Refused}
-use Rattle.parameter.specs.Parameters.{parameterAt, pastEnd, wrong, broken}
-use Rattle.frame.specs.Parameters.{falls, fallsBelow, illFormed}
+use Rattle.parameter.specs.Parameters.{parameterAt, broken}
+use Rattle.frame.specs.Parameters.{fallsBelow, falls, illFormed, illAfter}
+use Rattle.frame.proofs.Formed.{ill-first}
 use Rattle.reader.specs.declared.Cursor.{Cursor}
 use Rattle.reader.specs.declared.ParameterReader.{ParameterReader}
 use Rattle.reader.specs.Readers.{start, unlessFalling, standsAt, placeAfter, advancedOf, fresh, steppedOf}
-use Rattle.reader.specs.Through.{answers, after, afterFound, illAfter, wellFormed, answersTo, answersOf}
+use Rattle.reader.specs.Through.{answers, after, afterFound, wellFormed, answersTo, answersOf}
 
 -- ---- what a reader has to answer, parameter by parameter
--- a test of the first and the others, kind by kind, is a test of the first and then of the others
-regroup : (a b f a′ b′ f′ : Bool) → ((a || a′) || ((f || f′) || (b || b′))) ≡ (((a || b) || f) || (a′ || (f′ || b′)))
-regroup true b f a′ b′ f′ = refl
-regroup false true f a′ b′ f′ = simp or-true
-regroup false false true a′ b′ f′ = simp or-true
-regroup false false false a′ b′ f′ = refl
-
 module _ (s : List ℕ) (last : ℕ) where
   to-none : answersTo s last [] ≡ End ∷ []
   unfolding answersTo some falls
   to-none = refl
 
   module _ (p : Parameter) (ps : List Parameter) where
-    ill-first : illFormed s last (p ∷ ps) ≡ (illAfter s last p || illFormed s (p .kind) ps)
-    unfolding some falls
-    ill-first = regroup (pastEnd s p) (wrong p) (fallsBelow last p) (some (pastEnd s) ps) (some wrong ps) (falls (p .kind) ps)
-
     to-ill : illAfter s last p ≡ true → answersTo s last (p ∷ ps) ≡ Refused (refusal 3) ∷ []
     unfolding answersTo wellFormed
     to-ill h = rw (ill-first, h)

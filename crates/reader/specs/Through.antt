@@ -1,13 +1,12 @@
 -- What a reader answers when it is stepped to its end.
 use Prim.Native.Nat.{ℕ, zero, suc}
-use mathlib.Core.Bool.{Bool, cond, _||_}
+use mathlib.Core.Bool.{cond}
 use mathlib.Core.List.{List, [], _∷_, _++_, map}
 use Rattle.refusal.specs.Table.{refusal}
 use Rattle.parameter.specs.declared.Parameter.{Parameter}
 use Rattle.parameter.specs.declared.Step.{Step}
 use Rattle.parameter.specs.declared.Step.the-variants.{Found, End, Refused}
-use Rattle.parameter.specs.Parameters.{broken}
-use Rattle.frame.specs.Parameters.{parameters, fallsBelow, illFormed}
+use Rattle.frame.specs.Parameters.{parameters, illFormed, illAfter}
 use Rattle.reader.specs.declared.ParameterReader.{ParameterReader}
 use Rattle.reader.specs.Readers.{steppedOf}
 
@@ -26,10 +25,6 @@ answers (suc steps) r = steppedOf r .step ∷ afterFound (steppedOf r .step) (an
 unfoldable pub after : (steps : ℕ) → ParameterReader → ParameterReader
 after zero r = r
 after (suc steps) r = after steps (steppedOf r .reader)
-
--- what refusal 3 refuses of one parameter that follows one of type `last`
-abbrev pub illAfter : List ℕ → (last : ℕ) → Parameter → Bool
-illAfter s last p = broken s p || fallsBelow last p
 
 -- the parameters before the first that refusal 3 refuses, where they follow one of type `last`
 unfoldable pub wellFormed : List ℕ → (last : ℕ) → List Parameter → List Parameter
