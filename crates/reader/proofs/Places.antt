@@ -2,16 +2,17 @@
 use mathlib.Core.Path.{_≡_, refl, ap, sym, _∙_}
 use mathlib.Core.Bool.{Bool, true, false, cond}
 use mathlib.Core.List.{List}
-use Prim.Native.Nat.{ℕ, _-_, _<_, _≤_}
+use Prim.Native.Nat.{ℕ, _+_, _-_, _<_, _≤_}
 use native.Mathlib.Omega.{arith}
 use lib.ListN.{length}
-use borrow.Author.Tests.{lt-ltb, le-ltb}
+use borrow.Author.Tests.{lt-ltb, le-ltb, ltb-false}
+use Rattle.boolean.proofs.Laws.{or-false-left}
 use Rattle.refusal.specs.declared.Refusal.{Refusal}
 use Rattle.refusal.specs.Table.{refusal}
 use Rattle.parameter.specs.declared.Parameter.{Parameter}
 use Rattle.parameter.specs.declared.Step.{Step}
 use Rattle.parameter.specs.declared.Step.the-variants.{Found, End, Refused}
-use Rattle.parameter.specs.Parameters.{parameterAt, stepAt}
+use Rattle.parameter.specs.Parameters.{parameterAt, pastEnd, wrong, stepAt, broken}
 use Rattle.parameter.proofs.Steps.{at-found}
 use Rattle.frame.specs.Parameters.{fallsBelow}
 use Rattle.reader.specs.declared.Cursor.{Cursor}
@@ -46,7 +47,7 @@ module _ (s : List ℕ) (c : Cursor) {r : Step} (g : r ≡ stepAt s (c .at)) whe
       past : record { step = Found p; cursor = record { at = p .next; last = p .kind } } ≡ answerBy c (Found p)
       past = rw (le-ltb _ _ f)
 
--- ---- for a loop over the parameters
+-- ---- for a caller that was answered a parameter
 -- a parameter is found where the walk's step finds it
 found-by-step : (last : ℕ) (x : Step) {p : Parameter} → unlessFalling last x ≡ Found p → x ≡ Found p
 found-by-step last (Found q) {p} e = go (fallsBelow last q) e
@@ -57,13 +58,24 @@ found-by-step last (Found q) {p} e = go (fallsBelow last q) e
 found-by-step last End e = cc
 found-by-step last (Refused why) e = cc
 
--- past a parameter less of the packet is left: what falls at each turn of a loop
-pub less-left : (s : List ℕ) (c : Cursor) {r : Advanced} {p : Parameter} → r ≡ advancedOf s c → r .step ≡ Found p
-    → length s - r .cursor .at < length s - c .at
-unfolding advancedOf
-less-left s c {r} {p} g e =
-    let stands : standsAt s c ≡ Found p = sym (ap (λ (x : Advanced). x .step) g) ∙ e in
-    let q = at-found s (c .at) refl (found-by-step (c .last) (stepAt s (c .at)) stands) in
-    let place : r .cursor ≡ placeAfter c (Found p) = ap (λ (x : Advanced). x .cursor) g ∙ ap (placeAfter c) stands in
-    let next : r .cursor .at ≡ parameterAt s (c .at) .next = ap (λ (x : Cursor). x .at) place ∙ ap (λ (x : Parameter). x .next) (q .1 .1) in
-    omega (arith, q .0)
+module _ (s : List ℕ) (c : Cursor) {r : Advanced} {p : Parameter} (g : r ≡ advancedOf s c) (e : r .step ≡ Found p) where
+  stands : standsAt s c ≡ Found p
+  unfolding advancedOf
+  stands = sym (ap (λ (x : Advanced). x .step) g) ∙ e
+
+  found : (c .at < length s) × ((broken s (parameterAt s (c .at)) ≡ false) × (p ≡ parameterAt s (c .at)))
+  found = at-found s (c .at) refl (found-by-step (c .last) (stepAt s (c .at)) stands)
+
+  -- its L bytes lie within the packet
+  pub body-within : p .body + p .len ≤ length s
+  body-within =
+      let within = ltb-false (length s) (parameterAt s (c .at) .next) (or-false-left (pastEnd s (parameterAt s (c .at))) (wrong (parameterAt s (c .at))) (found .1 .0)) in
+      rw (found .1 .1) (omega arith)
+
+  -- past it less of the packet is left: what falls at each turn of a loop
+  pub less-left : length s - r .cursor .at < length s - c .at
+  unfolding advancedOf
+  less-left =
+      let place : r .cursor ≡ placeAfter c (Found p) = ap (λ (x : Advanced). x .cursor) g ∙ ap (placeAfter c) stands in
+      let next : r .cursor .at ≡ parameterAt s (c .at) .next = ap (λ (x : Cursor). x .at) place ∙ ap (λ (x : Parameter). x .next) (found .1 .1) in
+      omega (arith, found .0)

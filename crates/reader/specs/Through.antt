@@ -16,7 +16,7 @@ afterFound (Found p) more = more
 afterFound End more = []
 afterFound (Refused why) more = []
 
--- a reader is stepped until it answers something else than a parameter, `steps` times more than once at most: its answers
+-- the answers of a reader that is stepped until one of them is no parameter: once, and at most `steps` times more
 unfoldable pub answers : (steps : ℕ) → ParameterReader → List Step
 answers zero r = steppedOf r .step ∷ []
 answers (suc steps) r = steppedOf r .step ∷ afterFound (steppedOf r .step) (answers steps (steppedOf r .reader))
