@@ -24,25 +24,25 @@ abbrev answerBy : Cursor → Step → Advanced
 answerBy c r = record { step = unlessFalling (c .last) r; cursor = placeAfter c (unlessFalling (c .last) r) }
 
 module _ (s : List ℕ) (c : Cursor) {r : Step} (g : r ≡ stepAt s (c .at)) where
-  pub stays-at-end : r ≡ End → record { step = End; cursor = c } ≡ advancedOf s c
+  by-step : {x : Step} → r ≡ x → answerBy c x ≡ advancedOf s c
   unfolding advancedOf
-  stays-at-end e = ap (answerBy c) (sym e ∙ g)
+  by-step e = ap (answerBy c) (sym e ∙ g)
+
+  pub stays-at-end : r ≡ End → record { step = End; cursor = c } ≡ advancedOf s c
+  stays-at-end e = by-step e
 
   pub stays-refused : {why : Refusal} → r ≡ Refused why → record { step = Refused why; cursor = c } ≡ advancedOf s c
-  unfolding advancedOf
-  stays-refused e = ap (answerBy c) (sym e ∙ g)
+  stays-refused e = by-step e
 
   pub stays-fallen : {p : Parameter} → r ≡ Found p → p .kind < c .last → record { step = Refused (refusal 3); cursor = c } ≡ advancedOf s c
-  unfolding advancedOf
-  stays-fallen {p} e f = fallen ∙ ap (answerBy c) (sym e ∙ g)
+  stays-fallen {p} e f = fallen ∙ by-step e
     where
       fallen : record { step = Refused (refusal 3); cursor = c } ≡ answerBy c (Found p)
       fallen = rw (lt-ltb _ _ f)
 
   pub goes-past : {p : Parameter} → r ≡ Found p → c .last ≤ p .kind
       → record { step = Found p; cursor = record { at = p .next; last = p .kind } } ≡ advancedOf s c
-  unfolding advancedOf
-  goes-past {p} e f = past ∙ ap (answerBy c) (sym e ∙ g)
+  goes-past {p} e f = past ∙ by-step e
     where
       past : record { step = Found p; cursor = record { at = p .next; last = p .kind } } ≡ answerBy c (Found p)
       past = rw (le-ltb _ _ f)

@@ -1,4 +1,4 @@
--- What a reader answers when it is stepped to its end.
+-- What a reader answers when it is stepped to its end. `read-through`, in proofs/, is the law: `answers` of a new reader is `answersOf` its packet.
 use Prim.Native.Nat.{ℕ, zero, suc}
 use mathlib.Core.Bool.{cond}
 use mathlib.Core.List.{List, [], _∷_, _++_, map}
