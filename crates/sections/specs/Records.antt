@@ -1,0 +1,49 @@
+-- A run of records: "Each record is three sections, each after its 16-bit count of bytes."
+use Prim.Native.Nat.{ℕ, _+_, _-_}
+use mathlib.Core.Bool.{cond}
+use mathlib.Core.List.{List}
+use lib.Dec.{ltb, leb}
+use lib.ListN.{length, take, drop}
+use Rattle.octets.specs.Numbers.{numberAt}
+use Rattle.sections.specs.declared.Section.{Section}
+use Rattle.sections.specs.declared.Record.{Record}
+use Rattle.sections.specs.declared.SectionStep.{SectionStep}
+use Rattle.sections.specs.declared.SectionStep.the-variants.{Present, Cut}
+use Rattle.sections.specs.declared.RecordStep.{RecordStep}
+use Rattle.sections.specs.declared.RecordStep.the-variants.{Whole, Torn, End}
+
+-- the bytes of a count: "16-bit"
+abbrev pub countSize : ℕ
+countSize = 2
+
+-- how many bytes a section has
+abbrev pub sizeOf : Section → ℕ
+sizeOf section = section .end - section .start
+
+-- the bytes of s in a section
+abbrev pub bytesIn : List ℕ → Section → List ℕ
+bytesIn s section = take (sizeOf section) (drop (section .start) s)
+
+-- the section whose count stands at `at`
+abbrev pub sectionAt : List ℕ → ℕ → Section
+sectionAt s at = record { start = at + countSize; end = at + countSize + numberAt s at countSize }
+
+-- the section at `at`, where the bytes do not end before it does
+unfoldable pub sectionStepAt : List ℕ → ℕ → SectionStep
+sectionStepAt s at = cond (ltb (length s) (sectionAt s at .end)) Cut (Present (sectionAt s at))
+
+-- the record at `at`: three sections, each where the one before it ends
+abbrev pub recordAt : List ℕ → ℕ → Record
+recordAt s at = record {
+  numbers = sectionAt s at;
+  body = sectionAt s (sectionAt s at .end);
+  nonces = sectionAt s (sectionAt s (sectionAt s at .end) .end);
+}
+
+-- where the record after this one starts
+abbrev pub nextOf : Record → ℕ
+nextOf r = r .nonces .end
+
+-- what stands at `at`: at the end of the bytes or past it the end, a record that they end within, or a whole one
+unfoldable pub recordStepAt : List ℕ → ℕ → RecordStep
+recordStepAt s at = cond (leb (length s) at) End (cond (ltb (length s) (nextOf (recordAt s at))) Torn (Whole (recordAt s at)))
