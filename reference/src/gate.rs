@@ -1,0 +1,1116 @@
+//! The trace that meets every case of the census: short runs of calls that lead
+//! to each case, then random calls.
+
+use crate::association::{Association, CREDIT_LIMIT, LARGEST_SIZE, TIME_LIMIT};
+use crate::compose::{
+    ack, echo_response, esp_info, locator, locator_set, packet, sections, seq, set_header_length,
+    MoveText, Tracer, Written,
+};
+use crate::packet::{
+    Listed, ACK, ECHO_RESPONSE_SIGNED, ESP_INFO, HIP_MAC, HIP_SIGNATURE, HOST_ID, LOCATOR_SET, SEQ,
+};
+use crate::random::{address, write_trace, NOT_LEGAL};
+use crate::record::{Call, MessageInputs, Sections, StartInputs};
+
+/// Seeds and lengths of the random parts.
+const RANDOM_PARTS: [(u64, u64); 6] = [
+    (101, 250),
+    (102, 250),
+    (103, 250),
+    (104, 250),
+    (105, 250),
+    (106, 250),
+];
+
+pub fn trace() -> Vec<u8> {
+    let mut script = Script::default();
+    before_a_start(&mut script);
+    malformed_records(&mut script);
+    refused_starts(&mut script);
+    buffers_and_marks(&mut script);
+    headers(&mut script);
+    parameter_lengths(&mut script);
+    every_byte_changed(&mut script);
+    other_types(&mut script);
+    neither_move_nor_reply(&mut script);
+    faulty_sets(&mut script);
+    update_ids(&mut script);
+    late_echoes(&mut script);
+    odd_echoes(&mut script);
+    spis(&mut script);
+    nonces(&mut script);
+    refusals_together(&mut script);
+    echoes_in_moves(&mut script);
+    new_spis(&mut script);
+    renewals(&mut script);
+    refills(&mut script);
+    numbers_of_checks(&mut script);
+    preferences(&mut script);
+    legal_addresses(&mut script);
+    unjudged_bits(&mut script);
+    packet_sizes(&mut script);
+    credit(&mut script);
+    paths(&mut script);
+    ageing(&mut script);
+    expiry(&mut script);
+    end_of_time(&mut script);
+    let mut bytes = script.tracer.bytes;
+    for (seed, calls) in RANDOM_PARTS {
+        write_trace(seed, calls, &mut bytes).expect("a vector takes all bytes");
+    }
+    bytes
+}
+
+/// 2001:db8::n
+fn number(n: u8) -> [u8; 16] {
+    let mut number = address("2001:db8::");
+    number[15] = n;
+    number
+}
+
+fn listed(n: u8) -> Listed {
+    Listed {
+        address: number(n),
+        traffic: 0,
+        lifetime: 60,
+        preferred: false,
+        spi: None,
+    }
+}
+
+fn set_of(numbers: &[u8]) -> Vec<Listed> {
+    numbers.iter().map(|n| listed(*n)).collect()
+}
+
+fn preferring(n: u8, mut set: Vec<Listed>) -> Vec<Listed> {
+    for one in &mut set {
+        one.preferred = one.address == number(n);
+    }
+    set
+}
+
+fn with_traffic(traffic: u8, mut set: Vec<Listed>) -> Vec<Listed> {
+    for one in &mut set {
+        one.traffic = traffic;
+    }
+    set
+}
+
+#[derive(Default)]
+struct Script {
+    tracer: Tracer,
+    /// The last nonce given out.
+    nonce: u64,
+}
+
+impl Script {
+    fn call(&mut self, call: Call) {
+        self.tracer.call(&call);
+    }
+
+    fn record(&mut self, record: Sections) {
+        self.tracer.record(&record);
+    }
+
+    fn association(&self) -> &Association {
+        let association = self.tracer.player.association.as_ref();
+        association.expect("a start came before")
+    }
+
+    fn start_at(&mut self, time: u64, lifetime: u32) {
+        self.call(Call::Start(StartInputs {
+            time,
+            outbound: 0x2001,
+            inbound: 0x1001,
+            lifetime,
+            address: number(1),
+        }));
+    }
+
+    /// A new association at time 100 whose address 1 lasts for 60 seconds.
+    fn start(&mut self) {
+        self.start_at(100, 60);
+    }
+
+    /// A new association whose addresses are those numbered, all UNVERIFIED but
+    /// address 1.
+    fn start_with(&mut self, numbers: &[u8]) {
+        self.start();
+        self.list(set_of(numbers));
+    }
+
+    fn arrive(&mut self, size: u64) {
+        self.call(Call::Arrival { size });
+    }
+
+    fn send(&mut self, size: u64) {
+        self.call(Call::Send { size });
+    }
+
+    fn tick(&mut self, time: u64) {
+        self.call(Call::Tick { time });
+    }
+
+    /// Eight nonces that were not offered before.
+    fn fresh_nonces(&mut self) -> Vec<u64> {
+        let first = self.nonce + 1;
+        self.nonce += 8;
+        (first..first + 8).collect()
+    }
+
+    fn packet(&mut self, packet: Vec<u8>) {
+        let nonces = self.fresh_nonces();
+        self.packet_with(packet, nonces);
+    }
+
+    fn packet_with(&mut self, packet: Vec<u8>, nonces: Vec<u64>) {
+        self.call(Call::Message(MessageInputs {
+            authentic: true,
+            buffer: 384,
+            packet,
+            nonces,
+        }));
+    }
+
+    fn parameters(&mut self, parameters: &[Written]) {
+        self.packet(packet(parameters));
+    }
+
+    /// A Move in order, with the next Update ID.
+    fn text(&self, set: Vec<Listed>) -> MoveText {
+        let association = self.association();
+        MoveText {
+            keymat: 7,
+            old_spi: association.outbound,
+            new_spi: association.outbound,
+            update_id: association.peer_id.map_or(0, |id| id.saturating_add(1)),
+            set,
+            echo: None,
+            acks: Vec::new(),
+            others: Vec::new(),
+        }
+    }
+
+    /// A Move that lists this set.
+    fn list(&mut self, set: Vec<Listed>) {
+        self.changed(set, |_| {});
+    }
+
+    /// A Move with something changed.
+    fn changed(&mut self, set: Vec<Listed>, change: impl FnOnce(&mut MoveText)) {
+        let mut text = self.text(set);
+        change(&mut text);
+        self.packet(text.packet());
+    }
+
+    fn changed_with(
+        &mut self,
+        set: Vec<Listed>,
+        nonces: Vec<u64>,
+        change: impl FnOnce(&mut MoveText),
+    ) {
+        let mut text = self.text(set);
+        change(&mut text);
+        self.packet_with(text.packet(), nonces);
+    }
+
+    /// The outstanding nonce of a slot.
+    fn nonce_of(&self, slot: usize) -> u64 {
+        let locator = self.association().held.get(&slot);
+        locator.and_then(|l| l.nonce()).expect("a check under way")
+    }
+
+    fn echo(&mut self, nonce: u64) {
+        self.parameters(&[echo_response(&nonce.to_be_bytes())]);
+    }
+}
+
+fn before_a_start(s: &mut Script) {
+    s.record(sections(&[5], &[], &[]));
+    s.arrive(1);
+    s.send(1);
+    s.tick(100);
+    s.packet(packet(&[]));
+    s.arrive(0);
+    s.send(0);
+    s.tick(u64::MAX);
+    s.start_at(TIME_LIMIT, 60);
+    s.arrive(1);
+}
+
+fn malformed_records(s: &mut Script) {
+    s.start();
+    let place = number(1);
+    let wide = 1 << 32;
+    for call in [5, 6, 255, 256, 1 << 32, u64::MAX] {
+        s.record(sections(&[call, 1], &[], &[]));
+    }
+    s.record(sections(&[], &[], &[]));
+    s.record(sections(&[], &place, &[0; 8]));
+    for length in [1, 7, 9, 15, 17] {
+        let mut record = sections(&[2, 1, 1], &[], &[]);
+        record.numbers.truncate(length);
+        s.record(record);
+    }
+    for call in 0..5 {
+        s.record(sections(&[call], &[], &[]));
+        s.record(sections(&[call, 1, 1, 1], &[], &[]));
+        s.record(sections(&[call, 1, 1, 1, 1, 1], &[], &[]));
+    }
+    for numbers in [[1, wide, 1, 1], [1, 1, wide, 1], [1, 1, 1, wide]] {
+        let [time, outbound, inbound, lifetime] = numbers;
+        s.record(sections(
+            &[0, time, outbound, inbound, lifetime],
+            &place,
+            &[],
+        ));
+    }
+    s.record(sections(&[0, 1, u64::MAX, u64::MAX, u64::MAX], &place, &[]));
+    for length in [0, 1, 15] {
+        s.record(sections(&[0, 1, 1, 1, 1], &place[..length], &[]));
+    }
+    s.record(sections(&[0, 1, 1, 1, 1], &[1; 17], &[]));
+    s.record(sections(&[0, 1, 1, 1, 1], &place, &[1]));
+    let good = s.text(set_of(&[1])).packet();
+    let nonces = s.fresh_nonces();
+    s.record(sections(&[1, 2, 384], &good, &nonces));
+    s.record(sections(&[1, u64::MAX, 384], &good, &nonces));
+    s.record(sections(&[1, 1, 65_536], &good, &nonces));
+    s.record(sections(&[1, 1, u64::MAX], &good, &nonces));
+    s.record(sections(&[1, 1, 384], &good, &[]));
+    s.record(sections(&[1, 1, 384], &good, &nonces[..7]));
+    s.record(sections(
+        &[1, 1, 384],
+        &good,
+        &[nonces.clone(), vec![0]].concat(),
+    ));
+    for length in [63, 65] {
+        let mut record = sections(&[1, 1, 384], &good, &[nonces.clone(), vec![0]].concat());
+        record.nonces.truncate(length);
+        s.record(record);
+    }
+    for call in [2, 3, 4] {
+        s.record(sections(&[call, 200], &[0], &[]));
+        s.record(sections(&[call, 200], &[], &[0]));
+        s.record(sections(&[call, 200], &[0], &[0]));
+    }
+    s.record(sections(&[1, 1, 384], &good, &nonces));
+}
+
+fn refused_starts(s: &mut Script) {
+    s.start();
+    s.arrive(500);
+    let good = StartInputs {
+        time: 7,
+        outbound: 1,
+        inbound: 2,
+        lifetime: 1,
+        address: number(9),
+    };
+    let mut starts = vec![good.clone(); 7];
+    starts[0].time = TIME_LIMIT;
+    starts[1].time = u64::MAX;
+    starts[2].outbound = 0;
+    starts[3].inbound = 0;
+    starts[4].lifetime = 0;
+    starts[5].outbound = 0;
+    starts[5].time = TIME_LIMIT + 1;
+    for text in NOT_LEGAL {
+        let address = address(text);
+        starts.insert(0, StartInputs { address, ..good });
+    }
+    for inputs in starts {
+        s.call(Call::Start(inputs));
+    }
+    s.start_at(0, 1);
+    s.tick(0);
+    s.tick(1);
+    s.start_at(TIME_LIMIT - 1, u32::MAX);
+    s.list(set_of(&[1, 2]));
+}
+
+fn buffers_and_marks(s: &mut Script) {
+    s.start();
+    for (authentic, buffer) in [
+        (true, 0),
+        (true, 48),
+        (true, 383),
+        (false, 384),
+        (false, 383),
+        (true, 384),
+        (true, 385),
+        (true, 65_535),
+    ] {
+        let packet = s.text(set_of(&[1, 2])).packet();
+        let nonces = s.fresh_nonces();
+        s.call(Call::Message(MessageInputs {
+            authentic,
+            buffer,
+            packet,
+            nonces,
+        }));
+    }
+}
+
+/// Every bit of the judged header bytes, and lengths of packets.
+fn headers(s: &mut Script) {
+    s.start();
+    let good = s.text(set_of(&[1])).packet();
+    for place in 0..4 {
+        for bit in 0..8 {
+            // Accepted or Repeated where the bit is not judged.
+            let mut packet = good.clone();
+            packet[place] ^= 1 << bit;
+            s.packet(packet);
+        }
+    }
+    for length in [0, 1, 8, 32, 39, 40, 41, 47, 48, good.len() - 1] {
+        s.packet(good[..length].to_vec());
+        let mut packet = good[..length].to_vec();
+        if length > 1 {
+            set_header_length(&mut packet);
+        }
+        s.packet(packet);
+    }
+    for more in [1, 4, 8] {
+        let mut packet = good.clone();
+        packet.resize(good.len() + more, 0);
+        s.packet(packet.clone());
+        set_header_length(&mut packet);
+        s.packet(packet);
+    }
+}
+
+/// Lengths L of each parameter that is read.
+fn parameter_lengths(s: &mut Script) {
+    s.start_with(&[1, 2]);
+    for kind in [ESP_INFO, LOCATOR_SET, SEQ, ACK, ECHO_RESPONSE_SIGNED] {
+        for length in [
+            0, 1, 2, 3, 4, 5, 7, 8, 9, 11, 12, 13, 16, 23, 24, 25, 28, 48,
+        ] {
+            let mut text = s.text(set_of(&[2]));
+            text.acks = vec![1];
+            text.echo = Some(s.association().outstanding()[0].to_be_bytes().to_vec());
+            let mut parameters = text.parameters();
+            let wanted = parameters.iter_mut().find(|(other, _)| *other == kind);
+            wanted.expect("it is there").1.resize(length, 0);
+            if kind == ECHO_RESPONSE_SIGNED && length == 8 {
+                continue;
+            }
+            s.parameters(&parameters);
+            if s.association().outstanding().is_empty() {
+                s.start_with(&[1, 2]);
+            }
+        }
+    }
+    // A last parameter whose length leads past the end.
+    for length in [5, 12, 13, 100, 65_535_u16] {
+        let mut packet = s.text(set_of(&[1])).packet();
+        let place = packet.len() - 6;
+        packet[place..place + 2].copy_from_slice(&length.to_be_bytes());
+        s.packet(packet);
+    }
+}
+
+/// One bit of every byte of a Move changed; a new association where the Move is
+/// still accepted.
+fn every_byte_changed(s: &mut Script) {
+    s.start_with(&[1, 2]);
+    for place in 0.. {
+        let mut text = s.text(preferring(3, set_of(&[1, 3])));
+        text.echo = Some(s.nonce_of(1).to_be_bytes().to_vec());
+        text.acks = vec![3];
+        text.set[0].spi = Some(text.new_spi);
+        let mut packet = text.packet();
+        if place == packet.len() {
+            break;
+        }
+        packet[place] ^= 1 << (place * 5 % 8);
+        s.packet(packet);
+        if s.association().peer_id != Some(0) {
+            s.start_with(&[1, 2]);
+        }
+    }
+}
+
+/// Types beside the known ones, 897, and all that are stepped over.
+fn other_types(s: &mut Script) {
+    s.start();
+    for kind in [
+        1, 63, 67, 191, 195, 387, 451, 703, 707, 895, 897, 899, 959, 963, 61503, 61507, 61695,
+        61699, 65535,
+    ] {
+        s.changed(set_of(&[1]), |text| text.others.push((kind, vec![0; 8])));
+    }
+    for kind in [
+        0, 2, 64, 66, 194, 386, 450, 705, 898, 962, 32768, 61505, 61697, 65534,
+    ] {
+        s.changed(set_of(&[1]), |text| text.others.push((kind, vec![0; 9])));
+    }
+    // Twice the same type is not a falling type.
+    s.changed(set_of(&[1]), |text| {
+        text.others = vec![
+            (66, vec![]),
+            (66, vec![1]),
+            (HOST_ID, vec![]),
+            (HOST_ID, vec![2]),
+        ];
+    });
+    // The types of a Move in each order but the right one.
+    let right = s.text(set_of(&[1])).parameters();
+    for (first, second) in [(0, 1), (0, 2), (1, 2)] {
+        let mut parameters = right.clone();
+        parameters.swap(first, second);
+        s.parameters(&parameters);
+    }
+}
+
+fn neither_move_nor_reply(s: &mut Script) {
+    s.start_with(&[1, 2]);
+    let nonce = s.nonce_of(1).to_be_bytes();
+    let text = s.text(set_of(&[1, 2]));
+    let [info, set, id] = <[Written; 3]>::try_from(text.parameters()).expect("three of them");
+    let (response, seen) = (echo_response(&nonce), ack(&[4]));
+    let host = (HOST_ID, vec![1; 20]);
+    let runs: [&[&Written]; 21] = [
+        &[],
+        &[&host],
+        &[&seen],
+        &[&seen, &host],
+        &[&set, &id],
+        &[&info, &id],
+        &[&info, &set],
+        &[&info],
+        &[&set],
+        &[&id],
+        &[&info, &info, &set, &id],
+        &[&info, &set, &set, &id],
+        &[&info, &set, &id, &id],
+        &[&info, &set, &id, &response, &response],
+        &[&info, &set, &id, &seen, &seen],
+        &[&response, &response],
+        &[&seen, &seen, &response],
+        &[&info, &response],
+        &[&set, &response],
+        &[&id, &response],
+        &[&info, &set, &response],
+    ];
+    for run in runs {
+        let parameters: Vec<Written> = run.iter().map(|one| (*one).clone()).collect();
+        s.parameters(&parameters);
+    }
+    s.parameters(&[seen.clone(), host.clone(), response.clone()]);
+    s.start_with(&[1, 2]);
+    let response = echo_response(&s.nonce_of(1).to_be_bytes());
+    s.parameters(&[seen, host, response, (HIP_MAC, vec![0; 20])]);
+}
+
+/// Refusal 6, clause by clause.
+fn faulty_sets(s: &mut Script) {
+    s.start();
+    for count in [0, 9, 10, 8] {
+        let numbers: Vec<u8> = (1..=count).collect();
+        s.list(set_of(&numbers));
+    }
+    s.start();
+    for text in NOT_LEGAL {
+        let mut set = set_of(&[1, 2]);
+        set[1].address = address(text);
+        s.list(set.clone());
+        set[1].spi = Some(s.association().outbound);
+        s.list(set);
+    }
+    for traffic in [3, 4, 128, 255] {
+        s.list(with_traffic(traffic, set_of(&[2])));
+    }
+    s.list(set_of(&[1, 2, 1]));
+    let mut twice = set_of(&[3, 3]);
+    twice[1].spi = Some(s.association().outbound);
+    s.list(twice);
+    let mut both = preferring(1, set_of(&[1, 2]));
+    both[1].preferred = true;
+    s.list(both);
+    let mut brief = set_of(&[1, 2]);
+    brief[1].lifetime = 0;
+    s.list(brief);
+    locator_fields(s);
+    set_lengths(s);
+}
+
+/// Each locator type with each length.
+fn locator_fields(s: &mut Script) {
+    for kind in [0, 1, 2, 3, 255] {
+        for length in [0, 3, 4, 5, 6, 255] {
+            let mut body = locator(&listed(2));
+            body[1] = kind;
+            body[2] = length;
+            body.resize(8 + usize::from(length) * 4, 1);
+            if kind == 1 && length == 5 {
+                continue;
+            }
+            set_body(s, body.clone());
+            // The same length, with too few bytes for it.
+            body.truncate(20);
+            set_body(s, body);
+        }
+    }
+}
+
+/// Sets that their locators do not fill exactly.
+fn set_lengths(s: &mut Script) {
+    let (_, two) = locator_set(&set_of(&[1, 2]));
+    for length in [1, 4, 7, 8, 12, 23, 25, 31, 32, 44, 47] {
+        set_body(s, two[..length].to_vec());
+    }
+    for more in [1, 4, 7, 8] {
+        set_body(s, [two.clone(), vec![0; more]].concat());
+    }
+}
+
+/// A Move whose LOCATOR_SET has this body.
+fn set_body(s: &mut Script, body: Vec<u8>) {
+    let mut parameters = s.text(set_of(&[1])).parameters();
+    parameters[1] = (LOCATOR_SET, body);
+    s.parameters(&parameters);
+}
+
+fn update_ids(s: &mut Script) {
+    let ids = [
+        &[0, 0, 5, 4, 5, 6, 0][..],
+        &[1, 0, 1, 2, u32::MAX - 1, u32::MAX, u32::MAX, u32::MAX - 1],
+        &[u32::MAX, u32::MAX, 0, 1 << 31],
+        &[1 << 31, (1 << 31) - 1, (1 << 31) + 1],
+    ];
+    for run in ids {
+        s.start();
+        for (place, id) in run.iter().enumerate() {
+            let n = 1 + place as u8;
+            s.changed(set_of(&[1, n]), |text| text.update_id = *id);
+        }
+    }
+}
+
+/// Echoes of checks that have ended.
+fn late_echoes(s: &mut Script) {
+    s.start();
+    s.echo(1);
+    s.list(set_of(&[1, 2, 3]));
+    let (second, third) = (s.nonce_of(1), s.nonce_of(2));
+    s.echo(u64::MAX);
+    s.echo(second);
+    s.echo(second);
+    // Retired, then listed again, then its slot given to another address.
+    s.list(set_of(&[1, 2]));
+    s.echo(third);
+    s.changed(set_of(&[1, 2]), |text| {
+        text.echo = Some(third.to_be_bytes().to_vec())
+    });
+    s.list(set_of(&[1, 2, 3]));
+    s.echo(third);
+    let third = s.nonce_of(2);
+    s.list(set_of(&[1, 2, 4]));
+    s.echo(third);
+    let fourth = s.nonce_of(2);
+    s.changed(set_of(&[1, 2, 4]), |text| text.new_spi += 1);
+    s.echo(fourth);
+    let fourth = s.nonce_of(2);
+    s.echo(fourth);
+    // Retired by expiry, then listed again.
+    s.start_with(&[1, 2]);
+    let second = s.nonce_of(1);
+    s.tick(159);
+    s.tick(160);
+    s.echo(second);
+    s.list(set_of(&[1, 2]));
+    s.echo(second);
+    let second = s.nonce_of(1);
+    s.echo(second);
+    s.echo(second);
+    // A nonce that was answered before may be offered again.
+    s.changed_with(set_of(&[1, 2, 3]), (second..second + 8).collect(), |_| {});
+    s.echo(second);
+}
+
+/// Echoes of other lengths, and one among many.
+fn odd_echoes(s: &mut Script) {
+    s.start_with(&[1, 2, 3, 4, 5]);
+    let nonce = s.nonce_of(2);
+    let bytes = [&nonce.to_be_bytes()[..], &[0; 8]].concat();
+    for length in [0, 1, 4, 7, 9, 12, 16] {
+        s.parameters(&[echo_response(&bytes[..length])]);
+        s.changed(set_of(&[1, 2, 3]), |text| {
+            text.echo = Some(bytes[..length].to_vec())
+        });
+    }
+    s.echo(nonce.swap_bytes());
+    s.echo(nonce ^ 1 << 63);
+    // A Reply takes no nonces, so it may be offered any.
+    s.packet_with(
+        packet(&[echo_response(&nonce.to_be_bytes())]),
+        vec![nonce; 8],
+    );
+    for slot in [4, 1, 3] {
+        let nonce = s.nonce_of(slot);
+        s.echo(nonce);
+    }
+}
+
+fn spis(s: &mut Script) {
+    s.start();
+    for old_spi in [0, 1, 0x1001, 0x2000, u32::MAX] {
+        s.changed(set_of(&[1]), |text| text.old_spi = old_spi);
+    }
+    s.changed(set_of(&[1]), |text| text.new_spi = 0);
+    for spi in [0, 0x1001, 0x2000, 0x2001] {
+        s.changed(set_of(&[1, 2]), |text| text.set[1].spi = Some(spi));
+    }
+    // With another NEW SPI the locator's SPI is that one, not the old.
+    for spi in [0x2001, 0x3001] {
+        s.changed(set_of(&[1, 2]), |text| {
+            text.new_spi = 0x3001;
+            text.set[0].spi = Some(spi);
+        });
+    }
+}
+
+fn nonces(s: &mut Script) {
+    s.start_with(&[1, 2]);
+    let nonce = s.nonce_of(1);
+    for (first, second) in [(0, 7), (0, 1), (6, 7), (3, 4)] {
+        let mut nonces = s.fresh_nonces();
+        nonces[first] = nonces[second];
+        s.changed_with(set_of(&[1, 3]), nonces.clone(), |_| {});
+        s.changed_with(set_of(&[1]), nonces.clone(), |text| text.update_id = 0);
+        s.changed_with(set_of(&[1, 2]), nonces, |_| {});
+    }
+    for place in [0, 4, 7] {
+        let mut nonces = s.fresh_nonces();
+        nonces[place] = nonce;
+        s.changed_with(set_of(&[1, 3]), nonces.clone(), |_| {});
+        s.changed_with(set_of(&[1, 2]), nonces.clone(), |text| {
+            text.echo = Some(nonce.to_be_bytes().to_vec());
+        });
+        s.changed_with(set_of(&[1]), nonces, |text| text.new_spi = 9);
+    }
+    s.changed_with(
+        set_of(&[1, 2, 3]),
+        vec![0, u64::MAX, 1 << 63, 1, 2, 3, 4, 5],
+        |_| {},
+    );
+    s.echo(0);
+    s.changed_with(
+        set_of(&[1, 2, 3, 4]),
+        vec![u64::MAX, 0, 6, 7, 8, 9, 10, 11],
+        |_| {},
+    );
+}
+
+/// Messages for which several refusals hold: the lowest number answers.
+fn refusals_together(s: &mut Script) {
+    s.start_with(&[1, 2]);
+    s.list(set_of(&[1, 2]));
+    let bad_echo = Some(vec![9; 8]);
+    let equal = vec![5; 8];
+    let mut good = s.text(set_of(&[1, 2]));
+    good.update_id = 1;
+    let cut = vec![0; 39];
+    for (authentic, buffer, packet) in [
+        (false, 383, good.packet()),
+        (true, 383, cut.clone()),
+        (false, 384, cut),
+        (false, 0, vec![]),
+    ] {
+        s.call(Call::Message(MessageInputs {
+            authentic,
+            buffer,
+            packet,
+            nonces: equal.clone(),
+        }));
+    }
+    // Refusal 3 judges all parameters before refusal 4 is tried.
+    s.parameters(&[(1, vec![]), (SEQ, vec![0; 5])]);
+    s.parameters(&[(1, vec![]), (ACK, vec![])]);
+    s.parameters(&[(897, vec![]), (2, vec![])]);
+    s.parameters(&[(897, vec![])]);
+    s.changed(set_of(&[]), |text| text.others.push((3, vec![])));
+    s.parameters(&[esp_info(0, 1, 1), locator_set(&[])]);
+    s.parameters(&[locator_set(&set_of(&[1, 1])), seq(0)]);
+    s.changed(set_of(&[]), |text| text.update_id = 0);
+    s.changed(set_of(&[1, 1]), |text| text.update_id = 1);
+    s.changed(set_of(&[]), |text| text.echo = bad_echo.clone());
+    for update_id in [0, 1, 2] {
+        for (echo, old_spi) in [
+            (bad_echo.clone(), 0x2001),
+            (None, 4),
+            (bad_echo.clone(), 4),
+            (None, 0x2001),
+        ] {
+            s.changed_with(set_of(&[1, 2]), equal.clone(), |text| {
+                text.update_id = update_id;
+                text.echo = echo;
+                text.old_spi = old_spi;
+            });
+        }
+    }
+    // A Repeated Move's echo verifies nothing.
+    let nonce = s.nonce_of(1);
+    s.changed(set_of(&[3]), |text| {
+        text.update_id = 1;
+        text.echo = Some(nonce.to_be_bytes().to_vec());
+        text.new_spi = 4;
+    });
+    s.echo(nonce);
+}
+
+/// Step 1 in a Move, and what the same Move then does to the address.
+fn echoes_in_moves(s: &mut Script) {
+    for (set, new_spi) in [
+        (&[1, 2, 3][..], 0x2001),
+        (&[1, 3], 0x2001),
+        (&[1, 2, 3], 0x4001),
+        (&[1, 3], 0x4001),
+        (&[4, 5], 0x2001),
+        (&[4, 2], 0x4001),
+    ] {
+        s.start_with(&[1, 2, 3]);
+        let nonce = s.nonce_of(1);
+        s.changed(set_of(set), |text| {
+            text.echo = Some(nonce.to_be_bytes().to_vec());
+            text.new_spi = new_spi;
+        });
+        s.echo(nonce);
+        s.send(100);
+    }
+}
+
+fn new_spis(s: &mut Script) {
+    s.start();
+    s.changed(set_of(&[1]), |text| text.new_spi = 1);
+    s.changed(set_of(&[1]), |text| text.new_spi = u32::MAX);
+    s.start();
+    s.changed(set_of(&[2]), |text| text.new_spi = 1);
+    // ACTIVE, UNVERIFIED and DEPRECATED, listed and not.
+    for set in [&[1, 2, 3][..], &[3], &[2, 4], &[3, 2, 1, 5], &[6, 7]] {
+        s.start_with(&[1, 2, 3]);
+        s.list(set_of(&[1, 2]));
+        s.changed(set_of(set), |text| text.new_spi = 0x3001);
+        s.changed(set_of(set), |text| text.new_spi = 0x2001);
+    }
+    s.start_with(&[1, 2, 3, 4, 5, 6, 7, 8]);
+    s.changed(set_of(&[8, 7, 6, 5, 4, 3, 2, 1]), |text| {
+        text.new_spi = 0x3001
+    });
+    s.changed(set_of(&[9]), |text| text.new_spi = 0x2001);
+}
+
+/// Step 3: listed addresses that are held.
+fn renewals(s: &mut Script) {
+    s.start_with(&[1, 2]);
+    s.tick(110);
+    for lifetime in [50, 60, 1, 2, u32::MAX] {
+        for traffic in [0, 1, 2] {
+            let mut set = with_traffic(traffic, set_of(&[1, 2]));
+            set[0].lifetime = lifetime;
+            s.list(set.clone());
+            set[1].spi = Some(s.association().outbound);
+            s.list(set);
+        }
+    }
+    // DEPRECATED does not turn ACTIVE because it once was.
+    s.list(set_of(&[2]));
+    s.list(set_of(&[1, 2]));
+    let nonce = s.nonce_of(0);
+    s.echo(nonce);
+    s.list(set_of(&[1, 2]));
+    s.list(set_of(&[1]));
+    s.list(set_of(&[1]));
+    s.list(set_of(&[2, 1]));
+}
+
+/// Step 5: where new addresses go.
+fn refills(s: &mut Script) {
+    s.start_with(&[1, 2, 3]);
+    s.list(set_of(&[3]));
+    // Slots 0 and 1 are DEPRECATED, and a later entry lists what slot 0 holds.
+    s.list(set_of(&[4, 1, 3]));
+    s.list(set_of(&[3]));
+    s.list(set_of(&[5, 6, 4, 7]));
+    s.start_with(&[1, 2, 3, 4, 5, 6, 7, 8]);
+    s.list(set_of(&[8, 7, 6, 5, 4, 3, 2]));
+    s.list(set_of(&[9, 2, 3, 4, 5, 6, 7, 1]));
+    s.list(set_of(&[9, 10, 11, 12, 13, 14, 15, 16]));
+    s.list(set_of(&[1, 2, 3, 4, 5, 6, 7, 8]));
+    s.list(set_of(&[20]));
+    s.list(set_of(&[21]));
+    s.list(set_of(&[8, 22, 7, 23, 6]));
+    s.list(set_of(&[24, 23, 25, 22, 26, 8, 27, 7]));
+}
+
+/// 0 to 8 checks in one message, also from seven held addresses.
+fn numbers_of_checks(s: &mut Script) {
+    for count in 0..=8 {
+        s.start();
+        let numbers: Vec<u8> = (2..2 + count).collect();
+        if count < 8 {
+            s.list(set_of(&[&[1][..], &numbers].concat()));
+        } else {
+            s.list(set_of(&numbers));
+        }
+        s.changed(set_of(&numbers), |text| text.new_spi = 0x3001);
+    }
+}
+
+/// Step 6, and preferences that a refill drops.
+fn preferences(s: &mut Script) {
+    s.start();
+    s.list(set_of(&[2]));
+    s.list(set_of(&[2, 3]));
+    s.list(preferring(3, set_of(&[2, 3])));
+    s.list(preferring(3, set_of(&[2, 3])));
+    s.list(preferring(2, set_of(&[2, 3])));
+    s.list(set_of(&[3]));
+    s.list(set_of(&[3, 2]));
+    s.list(set_of(&[3]));
+    s.list(set_of(&[4, 3]));
+    s.list(preferring(5, set_of(&[5, 3])));
+    s.list(preferring(6, set_of(&[6])));
+    s.changed(set_of(&[6]), |text| text.new_spi = 4);
+    s.changed(preferring(7, set_of(&[7])), |text| text.new_spi = 5);
+    s.changed(set_of(&[8]), |text| text.new_spi = 6);
+}
+
+fn legal_addresses(s: &mut Script) {
+    for text in [
+        "fe00::",
+        "fe80::1",
+        "feff:ffff:ffff:ffff:ffff:ffff:ffff:ffff",
+        "::1",
+        "::100",
+        "100::",
+        "::ffff:223.255.255.255",
+        "::ffff:240.0.0.0",
+        "::ffff:0.0.0.1",
+        "::ffff:1.0.0.0",
+        "::ffff:255.255.255.254",
+        "::ffff:254.255.255.255",
+        "::ffff:127.0.0.1",
+        "::fffe:e000:1",
+        "::fffe:0:0",
+        "::fefe:e000:1",
+        "::e000:1",
+        "1::ffff:e000:1",
+        "::1:ffff:e000:1",
+        "::1:ffff:0:0",
+    ] {
+        s.start();
+        s.changed(set_of(&[2, 3]), |text_of_move| {
+            text_of_move.set[0].address = address(text);
+            text_of_move.set[1].address = address(text);
+            text_of_move.set[1].address[15] ^= 2;
+        });
+        s.call(Call::Start(StartInputs {
+            time: 5,
+            outbound: 1,
+            inbound: 1,
+            lifetime: 1,
+            address: address(text),
+        }));
+    }
+}
+
+/// Bits that are not judged, and parameters that are not used.
+fn unjudged_bits(s: &mut Script) {
+    s.start();
+    let mut packet = s.text(set_of(&[1])).packet();
+    packet[3] = 0x2f;
+    packet[4..40].fill(0xff);
+    // ESP_INFO's reserved bytes.
+    packet[44..46].fill(0xff);
+    // The locator's reserved bits, and the padding of LOCATOR_SET.
+    packet[63] = 0xfe;
+    packet[84..88].fill(0xff);
+    s.packet(packet);
+    for keymat in [0, 1, 255, 256, u16::MAX] {
+        s.changed(set_of(&[1]), |text| text.keymat = keymat);
+    }
+    for ids in [&[7][..], &[1, 2], &[0; 8]] {
+        s.changed(set_of(&[1]), |text| text.acks = ids.to_vec());
+    }
+    s.changed(set_of(&[1]), |text| {
+        text.others = vec![
+            (HOST_ID, vec![1; 30]),
+            (HIP_MAC, vec![2; 32]),
+            (HIP_SIGNATURE, vec![3; 65]),
+        ];
+    });
+    // The locator with the reserved bits all set and P too.
+    let mut body = locator(&listed(1));
+    body[3] = 0xff;
+    set_body(s, body);
+}
+
+/// Packets that are as long as they may be, and longer.
+fn packet_sizes(s: &mut Script) {
+    s.start();
+    for length in [2032, 2040, 2048, 2056, 2064, 2088, 4096, 65_528] {
+        let text = s.text(set_of(&[1, 2]));
+        let room = length - text.packet().len();
+        s.changed(set_of(&[1, 2]), |text| {
+            text.others.push((65_534, vec![1; room - 4]));
+        });
+    }
+    // 2,088 bytes with the header length of 40.
+    let mut long = packet(&[(65_534, vec![0; 2044])]);
+    long[1] = 4;
+    s.packet(long);
+}
+
+fn credit(s: &mut Script) {
+    s.start_with(&[2]);
+    s.send(1);
+    s.arrive(1);
+    s.send(1);
+    s.arrive(1);
+    s.send(1);
+    s.arrive(999);
+    for size in [
+        0,
+        65_536,
+        1 << 32,
+        (1 << 32) + 1,
+        u64::MAX,
+        65_535,
+        1000,
+        999,
+        1,
+    ] {
+        s.send(size);
+    }
+    for size in [0, 65_536, 1 << 32, (1 << 32) + 1, u64::MAX] {
+        s.arrive(size);
+    }
+    for _ in 0..16 {
+        s.arrive(LARGEST_SIZE);
+    }
+    let left = CREDIT_LIMIT - s.association().credit;
+    s.arrive(left - 1);
+    s.arrive(1);
+    s.arrive(1);
+    s.send(LARGEST_SIZE);
+    s.arrive(65_534);
+    s.arrive(2);
+    s.arrive(LARGEST_SIZE);
+    s.send(1);
+    s.arrive(576);
+    s.send(576);
+    s.arrive(1500);
+    s.start();
+    s.send(LARGEST_SIZE);
+    s.send(1);
+    s.send(0);
+}
+
+/// The four choices of a path, among carriers.
+fn paths(s: &mut Script) {
+    s.start_with(&[1, 2, 3]);
+    s.arrive(5000);
+    s.send(10);
+    s.list(preferring(3, set_of(&[1, 2, 3])));
+    s.send(10);
+    let nonce = s.nonce_of(2);
+    s.echo(nonce);
+    s.send(10);
+    // No ACTIVE slot: the preferred one, then the lowest.
+    s.changed(set_of(&[1, 2, 3]), |text| text.new_spi = 4);
+    s.send(10);
+    s.list(set_of(&[1, 2]));
+    s.send(10);
+    s.send(5000);
+    s.tick(160);
+    s.send(10);
+    s.send(0);
+    // Each traffic type in each of three slots, ACTIVE and UNVERIFIED ones.
+    for types in [
+        [1, 0, 2],
+        [1, 2, 0],
+        [0, 1, 1],
+        [1, 1, 2],
+        [1, 1, 1],
+        [2, 1, 0],
+    ] {
+        for preferred in [0, 1, 2, 3] {
+            s.start();
+            s.arrive(2000);
+            let mut set = preferring(preferred, set_of(&[1, 2, 3]));
+            for (one, traffic) in set.iter_mut().zip(types) {
+                one.traffic = traffic;
+            }
+            s.list(set.clone());
+            s.send(100);
+            let nonce = s.nonce_of(1);
+            s.echo(nonce);
+            s.send(100);
+            s.changed(set.clone(), |text| text.new_spi = 4);
+            s.send(100);
+            s.list(set.drain(1..).collect());
+            s.send(100);
+        }
+    }
+}
+
+fn ageing(s: &mut Script) {
+    for passed in [0, 1, 4, 5, 6, 9, 10, 17, 40] {
+        s.start();
+        s.arrive(1000);
+        s.tick(100 + passed);
+        s.tick(104 + passed);
+        s.tick(105 + passed);
+        s.tick(99 + passed);
+    }
+    s.start();
+    s.arrive(20);
+    for step in 1..30 {
+        s.tick(100 + 5 * step);
+    }
+    for _ in 0..17 {
+        s.arrive(LARGEST_SIZE);
+    }
+    for step in 30..34 {
+        s.tick(100 + 5 * step);
+    }
+}
+
+fn expiry(s: &mut Script) {
+    for time in [159, 160, 161, 1000] {
+        s.start_with(&[1, 2, 3]);
+        let mut set = set_of(&[1, 2, 3]);
+        set[2].lifetime = 61;
+        s.list(set);
+        s.tick(time);
+        s.tick(time);
+        s.tick(time + 1);
+        s.list(set_of(&[1]));
+        s.list(set_of(&[4, 2]));
+    }
+}
+
+fn end_of_time(s: &mut Script) {
+    s.start_at(TIME_LIMIT - 10, 9);
+    s.arrive(100);
+    s.list(set_of(&[1, 2]));
+    s.changed(set_of(&[1, 2]), |text| text.set[1].lifetime = u32::MAX);
+    for time in [
+        TIME_LIMIT,
+        TIME_LIMIT + 1,
+        u64::MAX,
+        TIME_LIMIT - 11,
+        TIME_LIMIT - 2,
+        TIME_LIMIT - 1,
+        TIME_LIMIT - 1,
+        TIME_LIMIT,
+    ] {
+        s.tick(time);
+    }
+    s.list(set_of(&[1, 2]));
+    s.send(1);
+}

@@ -1,0 +1,105 @@
+//! What became of past checks, so that the census can tell late echoes apart.
+//! The association itself keeps none of this.
+
+use std::collections::BTreeMap;
+
+use crate::association::Association;
+use crate::packet::echo_of;
+use crate::reasons::Notes;
+
+#[derive(Clone, Copy, Debug, PartialEq, Eq)]
+enum Ending {
+    Answered,
+    RetiredByMove,
+    RetiredByExpiry,
+    /// The address has another check since.
+    Replaced,
+    /// Another address holds the slot since.
+    Refilled,
+}
+
+#[derive(Clone, Debug, Default)]
+pub struct History {
+    /// Nonces of ended checks, with the slot and the address they were for.
+    ended: BTreeMap<u64, (usize, [u8; 16], Ending)>,
+}
+
+impl History {
+    /// Takes in an accepted call; `packet` is empty for a tick.
+    pub fn observe(&mut self, before: &Association, after: &Association, packet: &[u8]) {
+        let echo = echo_of(packet);
+        for (slot, locator) in &before.held {
+            let Some(nonce) = locator.nonce() else {
+                continue;
+            };
+            if after.outstanding().contains(&nonce) {
+                continue;
+            }
+            let ending = if echo.as_deref() == Some(&nonce.to_be_bytes()[..]) {
+                Ending::Answered
+            } else if packet.is_empty() {
+                Ending::RetiredByExpiry
+            } else {
+                Ending::RetiredByMove
+            };
+            self.ended.insert(nonce, (*slot, locator.address, ending));
+        }
+        self.mark_replaced(before, after);
+    }
+
+    /// A new check in a slot replaces those that were retired there.
+    fn mark_replaced(&mut self, before: &Association, after: &Association) {
+        for (slot, locator) in &after.held {
+            let Some(nonce) = locator.nonce() else {
+                continue;
+            };
+            if before.outstanding().contains(&nonce) {
+                continue;
+            }
+            self.ended.remove(&nonce);
+            for (old_slot, address, ending) in self.ended.values_mut() {
+                if old_slot == slot && *ending != Ending::Answered {
+                    *ending = if *address == locator.address {
+                        Ending::Replaced
+                    } else {
+                        Ending::Refilled
+                    };
+                }
+            }
+        }
+    }
+
+    /// Notes what refusal 8 was about.
+    pub fn note_echo(&self, association: &Association, packet: &[u8], notes: &mut Notes) {
+        let Some(echo) = echo_of(packet) else {
+            return;
+        };
+        let none = association.outstanding().is_empty();
+        notes.add_if(none, "refusal 8: no check outstanding");
+        let Ok(eight) = <[u8; 8]>::try_from(echo.as_slice()) else {
+            note_other_length(association, &echo, notes);
+            return;
+        };
+        notes.add(match self.ended.get(&u64::from_be_bytes(eight)) {
+            None => "refusal 8: a nonce never taken",
+            Some((_, _, Ending::Answered)) => "refusal 8: already answered",
+            Some((_, _, Ending::RetiredByMove)) => "refusal 8: check retired by a Move",
+            Some((_, _, Ending::RetiredByExpiry)) => "refusal 8: check retired by expiry",
+            Some((_, _, Ending::Replaced)) => "refusal 8: check replaced",
+            Some((_, _, Ending::Refilled)) => "refusal 8: slot refilled",
+        });
+    }
+}
+
+fn note_other_length(association: &Association, echo: &[u8], notes: &mut Notes) {
+    notes.add_if(echo.is_empty(), "refusal 8: empty echo");
+    let outstanding = association.outstanding();
+    let begins = outstanding.iter().any(|nonce| {
+        let nonce = nonce.to_be_bytes();
+        nonce.starts_with(echo) || echo.starts_with(&nonce)
+    });
+    let short = echo.len() < 8 && !echo.is_empty();
+    notes.add_if(begins && short, "refusal 8: part of an outstanding nonce");
+    let long = echo.len() > 8;
+    notes.add_if(begins && long, "refusal 8: outstanding nonce and more");
+}

@@ -1,0 +1,792 @@
+//! Random traces. The association is run alongside, so that most calls are
+//! accepted and the others fail close to the edge.
+
+use std::io::{self, Write};
+use std::net::Ipv6Addr;
+
+use crate::association::{Association, Locator, CREDIT_LIMIT, LARGEST_SIZE, TIME_LIMIT};
+use crate::compose::{
+    ack, echo_response, packet, record_of, sections, set_header_length, MoveText, Tracer, Written,
+};
+use crate::packet::{
+    bytes_in_all, Listed, ACK, ECHO_REQUEST_SIGNED, ECHO_RESPONSE_SIGNED, ESP_INFO, HEADER_LENGTH,
+    HIP_MAC, HIP_SIGNATURE, HOST_ID, LOCATOR_SET, SEQ,
+};
+use crate::record::{Call, MessageInputs, Sections, StartInputs};
+use crate::replay::Answer;
+
+/// Writes a random trace; the same seed gives the same bytes.
+pub fn write_trace(seed: u64, calls: u64, out: &mut impl Write) -> io::Result<()> {
+    let mut generator = Generator::new(seed);
+    for _ in 0..calls {
+        generator.one_record();
+        out.write_all(&std::mem::take(&mut generator.tracer.bytes))?;
+    }
+    Ok(())
+}
+
+/// The splitmix64 generator.
+struct Random(u64);
+
+impl Random {
+    fn number(&mut self) -> u64 {
+        self.0 = self.0.wrapping_add(0x9e37_79b9_7f4a_7c15);
+        let mut z = self.0;
+        z = (z ^ (z >> 30)).wrapping_mul(0xbf58_476d_1ce4_e5b9);
+        z = (z ^ (z >> 27)).wrapping_mul(0x94d0_49bb_1331_11eb);
+        z ^ (z >> 31)
+    }
+
+    fn below(&mut self, limit: u64) -> u64 {
+        self.number() % limit
+    }
+
+    fn index(&mut self, length: usize) -> usize {
+        self.below(length as u64) as usize
+    }
+
+    fn byte(&mut self) -> u8 {
+        self.number() as u8
+    }
+
+    fn percent(&mut self, chance: u64) -> bool {
+        self.below(100) < chance
+    }
+
+    fn pick<T: Clone>(&mut self, choices: &[T]) -> T {
+        choices[self.index(choices.len())].clone()
+    }
+
+    fn shuffle<T>(&mut self, items: &mut [T]) {
+        for last in (1..items.len()).rev() {
+            items.swap(last, self.index(last + 1));
+        }
+    }
+}
+
+const LEGAL: [&str; 26] = [
+    "2001:db8::1",
+    "2001:db8::2",
+    "2001:db8::3",
+    "2001:db8::4",
+    "2001:db8::5",
+    "2001:db8::6",
+    "2001:db8::7",
+    "2001:db8::8",
+    "2001:db8::9",
+    "2001:db8:1::1",
+    "2001:db8:1::2",
+    "fe80::1",
+    "feff:ffff:ffff:ffff:ffff:ffff:ffff:ffff",
+    "::1",
+    "::2",
+    "100::",
+    "::ffff:223.255.255.255",
+    "::ffff:240.0.0.0",
+    "::ffff:0.0.0.1",
+    "::ffff:255.255.255.254",
+    "::ffff:254.255.255.255",
+    "::ffff:192.0.2.1",
+    "::fffe:e000:1",
+    "::fffe:0:0",
+    "1::ffff:e000:1",
+    "::1:ffff:ffff:ffff",
+];
+
+pub const NOT_LEGAL: [&str; 9] = [
+    "ff02::1",
+    "ff00::",
+    "ffff:ffff:ffff:ffff:ffff:ffff:ffff:ffff",
+    "::",
+    "::ffff:224.0.0.0",
+    "::ffff:231.1.2.3",
+    "::ffff:239.255.255.255",
+    "::ffff:0.0.0.0",
+    "::ffff:255.255.255.255",
+];
+
+pub fn address(text: &str) -> [u8; 16] {
+    let address: Ipv6Addr = text.parse().expect("an address");
+    address.octets()
+}
+
+/// How the calls on one association are spread.
+struct Style {
+    /// Addresses that its Moves list; few, so that they come back.
+    pool: Vec<[u8; 16]>,
+    /// Percentage of messages that answer a check.
+    answers: u64,
+    /// Percentage of Moves with another SPI.
+    new_spis: u64,
+    /// Percentage of messages that something is wrong with.
+    spoilt: u64,
+    /// Percentage of arrivals that begin a run of large ones.
+    bursts: u64,
+    first_id: u32,
+    /// Calls until the next start.
+    calls: u64,
+}
+
+/// A message before its bytes are written.
+struct Draft {
+    text: MoveText,
+    /// A Reply: only the echo response and the ACK are written.
+    reply: bool,
+    authentic: bool,
+    buffer: u64,
+    nonces: Vec<u64>,
+}
+
+struct Generator {
+    random: Random,
+    tracer: Tracer,
+    style: Style,
+    /// Nonces that once were outstanding.
+    past_nonces: Vec<u64>,
+    /// Those of them whose check the latest change ended.
+    just_ended: Vec<u64>,
+    past_packets: Vec<Vec<u8>>,
+    /// Large arrivals still to come, to reach the credit limit.
+    burst: u64,
+}
+
+impl Generator {
+    fn new(seed: u64) -> Generator {
+        let mut random = Random(seed);
+        let style = Style::new(&mut random);
+        Generator {
+            random,
+            tracer: Tracer::default(),
+            style,
+            past_nonces: Vec::new(),
+            just_ended: Vec::new(),
+            past_packets: Vec::new(),
+            burst: 0,
+        }
+    }
+
+    fn one_record(&mut self) {
+        let before = self.outstanding();
+        let record = self.choose_record();
+        let answer = self.tracer.record(&record);
+        self.style.calls = self.style.calls.saturating_sub(1);
+        if answer == Answer::Start(Ok(())) {
+            self.past_nonces.clear();
+            self.just_ended.clear();
+            self.past_packets.clear();
+            self.burst = 0;
+        }
+        self.remember_nonces(&before);
+    }
+
+    fn outstanding(&self) -> Vec<u64> {
+        let association = self.tracer.player.association.as_ref();
+        association.map_or(Vec::new(), Association::outstanding)
+    }
+
+    fn remember_nonces(&mut self, before: &[u64]) {
+        let now = self.outstanding();
+        let ended = before.iter().filter(|nonce| !now.contains(nonce));
+        let ended: Vec<u64> = ended.copied().collect();
+        if !ended.is_empty() {
+            self.just_ended = ended;
+        }
+        for nonce in now {
+            if !self.past_nonces.contains(&nonce) {
+                self.past_nonces.push(nonce);
+            }
+        }
+        if self.past_nonces.len() > 64 {
+            self.past_nonces.remove(0);
+        }
+    }
+
+    fn choose_record(&mut self) -> Sections {
+        let Some(association) = self.tracer.player.association.clone() else {
+            return self.without_association();
+        };
+        if self.style.calls == 0 {
+            self.style = Style::new(&mut self.random);
+            return record_of(&self.start());
+        }
+        if self.burst > 0 {
+            self.burst -= 1;
+            return record_of(&self.large_arrival(&association));
+        }
+        let call = match self.random.below(100) {
+            0..=2 => return self.malformed(),
+            3 => self.refused_start(),
+            4..=51 => self.message(&association),
+            52..=65 => self.arrival(&association),
+            66..=83 => self.send(&association),
+            _ => self.tick(&association),
+        };
+        record_of(&call)
+    }
+
+    fn without_association(&mut self) -> Sections {
+        let call = match self.random.below(8) {
+            0 => return self.malformed(),
+            1 => self.refused_start(),
+            2 => Call::Arrival { size: 1 },
+            3 => Call::Send { size: 0 },
+            4 => Call::Tick { time: 100 },
+            5 => Call::Message(MessageInputs {
+                authentic: true,
+                buffer: 384,
+                packet: packet(&[]),
+                nonces: vec![0; 8],
+            }),
+            _ => self.start(),
+        };
+        record_of(&call)
+    }
+
+    fn start(&mut self) -> Call {
+        let r = &mut self.random;
+        let time = match r.below(10) {
+            0 => 0,
+            1 => TIME_LIMIT - 1,
+            2 => TIME_LIMIT - 1 - r.below(400),
+            _ => r.below(1_000_000),
+        };
+        if time + 400 >= TIME_LIMIT {
+            // The clock soon stands still.
+            self.style.calls = self.style.calls.min(200);
+        }
+        Call::Start(StartInputs {
+            time,
+            outbound: r.pick(&[1, 2, 0x2001, u32::MAX]),
+            inbound: r.pick(&[1, 0x1001, u32::MAX]),
+            lifetime: lifetime(r),
+            address: r.pick(&self.style.pool),
+        })
+    }
+
+    fn refused_start(&mut self) -> Call {
+        let Call::Start(mut inputs) = self.start() else {
+            unreachable!("a start");
+        };
+        let r = &mut self.random;
+        match r.below(5) {
+            0 => inputs.time = r.pick(&[TIME_LIMIT, TIME_LIMIT + 1, u64::MAX]),
+            1 => inputs.outbound = 0,
+            2 => inputs.inbound = 0,
+            3 => inputs.lifetime = 0,
+            _ => inputs.address = address(r.pick(&NOT_LEGAL)),
+        }
+        Call::Start(inputs)
+    }
+
+    fn large_arrival(&mut self, association: &Association) -> Call {
+        let left = CREDIT_LIMIT - association.credit;
+        let exact = left.clamp(1, LARGEST_SIZE);
+        let size = match self.random.below(3) {
+            0 if left < 2 * LARGEST_SIZE => exact,
+            1 if left < 2 * LARGEST_SIZE => exact.saturating_sub(1).max(1),
+            _ => LARGEST_SIZE,
+        };
+        Call::Arrival { size }
+    }
+
+    fn arrival(&mut self, association: &Association) -> Call {
+        let r = &mut self.random;
+        if r.percent(self.style.bursts) {
+            self.burst = 10 + r.below(12);
+        }
+        let left = CREDIT_LIMIT - association.credit;
+        let size = match r.below(20) {
+            0 => 0,
+            1 => 65_536,
+            2 => r.number(),
+            3 => 1,
+            4 => LARGEST_SIZE,
+            5 => left.clamp(1, LARGEST_SIZE),
+            _ => 1 + r.below(3000),
+        };
+        Call::Arrival { size }
+    }
+
+    fn send(&mut self, association: &Association) -> Call {
+        let r = &mut self.random;
+        let credit = association.credit;
+        let size = match r.below(20) {
+            0 => r.pick(&[0, 65_536, u64::MAX, 1 << 32]),
+            1..=2 => LARGEST_SIZE,
+            3..=5 if credit <= LARGEST_SIZE => credit,
+            6..=8 if credit <= LARGEST_SIZE => credit.saturating_sub(1),
+            9 if credit < LARGEST_SIZE => credit + 1,
+            10 => 1,
+            _ => 1 + r.below(1500),
+        };
+        Call::Send { size }
+    }
+
+    fn tick(&mut self, association: &Association) -> Call {
+        let r = &mut self.random;
+        let (now, aged) = (association.time, association.aged);
+        let live = association.held.values().filter(|l| !l.is_deprecated());
+        let soon = live.filter(|l| l.expiry < now + 3000);
+        let expiries: Vec<u64> = soon.map(|l| l.expiry).collect();
+        let time = match r.below(40) {
+            0 => now.saturating_sub(1),
+            1 => r.below(now + 1),
+            2 => r.pick(&[TIME_LIMIT, TIME_LIMIT + 1, u64::MAX]),
+            3 => now,
+            4 if now + 500 > TIME_LIMIT => TIME_LIMIT - 1,
+            5 => now + 10 + r.below(2000),
+            6..=8 => aged + 4,
+            9..=13 => aged + 5,
+            14..=15 => aged + 6,
+            16..=21 if !expiries.is_empty() => r.pick(&expiries) + r.below(3) - 1,
+            _ => now + r.below(4),
+        };
+        Call::Tick { time }
+    }
+
+    fn message(&mut self, association: &Association) -> Call {
+        if !self.past_packets.is_empty() && self.random.percent(2) {
+            return self.old_packet();
+        }
+        let mut draft = self.draft(association);
+        let mut spoils = 0;
+        if self.random.percent(self.style.spoilt) {
+            spoils = 1 + usize::from(self.random.percent(25));
+        }
+        let kinds: Vec<u64> = (0..spoils).map(|_| self.random.below(10)).collect();
+        for _ in kinds.iter().filter(|kind| **kind < 6) {
+            self.spoil_draft(&mut draft, association);
+        }
+        let mut parameters = draft.parameters();
+        self.colour_parameters(&mut parameters);
+        if kinds.contains(&6) || kinds.contains(&7) {
+            self.spoil_parameters(&mut parameters);
+        }
+        let mut packet = packet(&parameters);
+        self.colour_bytes(&mut packet, &parameters);
+        if kinds.contains(&8) || kinds.contains(&9) {
+            self.damage(&mut packet);
+        }
+        self.past_packets.push(packet.clone());
+        if self.past_packets.len() > 20 {
+            self.past_packets.remove(0);
+        }
+        Call::Message(MessageInputs {
+            authentic: draft.authentic,
+            buffer: draft.buffer,
+            packet,
+            nonces: draft.nonces,
+        })
+    }
+
+    /// A packet that came before, with other nonces.
+    fn old_packet(&mut self) -> Call {
+        let packet = self.random.pick(&self.past_packets);
+        Call::Message(MessageInputs {
+            authentic: true,
+            buffer: 384,
+            packet,
+            nonces: (0..8).map(|_| self.random.number()).collect(),
+        })
+    }
+
+    /// A message with nothing wrong.
+    fn draft(&mut self, association: &Association) -> Draft {
+        let outstanding = association.outstanding();
+        let r = &mut self.random;
+        let mut echo = None;
+        if !outstanding.is_empty() {
+            echo = Some(r.pick(&outstanding).to_be_bytes().to_vec());
+        }
+        let reply = echo.is_some() && r.percent(self.style.answers);
+        if !reply && r.percent(60) {
+            echo = None;
+        }
+        let outbound = association.outbound;
+        let mut new_spi = outbound;
+        if r.percent(self.style.new_spis) {
+            new_spi = r.pick(&[1, 2, 3, 0x2001, u32::MAX]);
+        }
+        let step = 1 + r.below(3) as u32;
+        let next_id = association.peer_id.map(|id| id.saturating_add(step));
+        if association.peer_id == Some(u32::MAX) {
+            // Only repeats are left, so a new association comes soon.
+            self.style.calls = self.style.calls.min(20);
+        }
+        let acks = r.pick(&[0, 0, 1, 1, 2, 5]);
+        let acks = (0..acks).map(|_| r.number() as u32).collect();
+        let text = MoveText {
+            keymat: r.pick(&[0, 1, 0x1234, u16::MAX]),
+            old_spi: outbound,
+            new_spi,
+            update_id: next_id.unwrap_or(self.style.first_id),
+            acks,
+            echo,
+            set: Vec::new(),
+            others: Vec::new(),
+        };
+        let mut draft = Draft {
+            text,
+            reply,
+            authentic: true,
+            buffer: r.pick(&[384, 384, 385, 1000, 65_535]),
+            nonces: (0..8).map(|_| r.number()).collect(),
+        };
+        draft.text.set = self.set(association, new_spi);
+        draft.text.others = self.others();
+        self.vary_nonces(&mut draft, &outstanding);
+        draft
+    }
+
+    /// Now and then a nonce that is special, or that was used before.
+    fn vary_nonces(&mut self, draft: &mut Draft, outstanding: &[u64]) {
+        let r = &mut self.random;
+        if !r.percent(10) {
+            return;
+        }
+        let nonce = if self.past_nonces.is_empty() || r.percent(30) {
+            r.pick(&[0, 1, u64::MAX, 1 << 63])
+        } else {
+            r.pick(&self.past_nonces)
+        };
+        if !outstanding.contains(&nonce) {
+            draft.nonces[r.index(3)] = nonce;
+        }
+        if draft.reply {
+            // A Reply takes no nonces, so these may be anything.
+            draft.nonces = vec![r.pick(&self.past_nonces); 8];
+        }
+    }
+
+    /// The locators of a Move.
+    fn set(&mut self, association: &Association, new_spi: u32) -> Vec<Listed> {
+        let addresses = self.set_addresses(association);
+        let r = &mut self.random;
+        let preferred = r.percent(50).then(|| r.index(addresses.len()));
+        let mut set = Vec::new();
+        for (place, address) in addresses.into_iter().enumerate() {
+            set.push(Listed {
+                address,
+                traffic: r.pick(&[0, 0, 0, 0, 0, 1, 1, 2]),
+                lifetime: lifetime(r),
+                preferred: preferred == Some(place),
+                spi: r.percent(15).then_some(new_spi),
+            });
+        }
+        set
+    }
+
+    fn set_addresses(&mut self, association: &Association) -> Vec<[u8; 16]> {
+        let r = &mut self.random;
+        let mut pool = self.style.pool.clone();
+        r.shuffle(&mut pool);
+        let count = match r.below(10) {
+            0 => 1,
+            1..=2 => 8,
+            _ => 1 + r.index(8),
+        };
+        let live = |l: &&Locator| !l.is_deprecated();
+        let held = association.held.values();
+        let mut addresses: Vec<[u8; 16]> = match r.below(10) {
+            // All that are in use stay.
+            0..=4 => held.filter(live).map(|l| l.address).collect(),
+            // Some that are held, DEPRECATED ones too.
+            5..=6 => held.map(|l| l.address).filter(|_| r.percent(60)).collect(),
+            _ => Vec::new(),
+        };
+        if addresses.is_empty() || r.percent(60) {
+            let wanted = count.max(addresses.len());
+            for address in pool {
+                if addresses.len() < wanted && !addresses.contains(&address) {
+                    addresses.push(address);
+                }
+            }
+        }
+        if r.percent(70) {
+            r.shuffle(&mut addresses);
+        }
+        addresses
+    }
+
+    /// Parameters that are stepped over.
+    fn others(&mut self) -> Vec<Written> {
+        let mut others = Vec::new();
+        let r = &mut self.random;
+        for kind in [HOST_ID, HIP_MAC, HIP_SIGNATURE, 2, 128, 1000, 65_534] {
+            if r.percent(6) {
+                let length = r.index(40);
+                others.push((kind, (0..length).map(|_| r.byte()).collect()));
+            }
+        }
+        others
+    }
+
+    /// One thing wrong with what the message says or comes with.
+    fn spoil_draft(&mut self, draft: &mut Draft, association: &Association) {
+        let r = &mut self.random;
+        let text = &mut draft.text;
+        if text.set.is_empty() {
+            return;
+        }
+        let place = r.index(text.set.len());
+        let last_id = association.peer_id.unwrap_or(0);
+        let outstanding = association.outstanding();
+        match r.below(27) {
+            0..=2 => text.update_id = last_id,
+            3 => text.update_id = last_id.saturating_sub(1 + r.below(3) as u32),
+            4 => text.old_spi = text.old_spi.wrapping_add(1),
+            5 => text.new_spi = 0,
+            6 => text.set[place].spi = Some(text.new_spi ^ 1),
+            7 => text.set[place].lifetime = 0,
+            8 => text.set[place].traffic = r.pick(&[3, 4, 255]),
+            9..=10 => text.set[place].address = address(r.pick(&NOT_LEGAL)),
+            11 => {
+                let twice = text.set[place].clone();
+                text.set.push(twice);
+            }
+            12 => {
+                for listed in &mut text.set {
+                    listed.preferred = true;
+                }
+            }
+            13 => text.set.clear(),
+            14 => {
+                for n in text.set.len() as u8..9 {
+                    let mut listed = text.set[0].clone();
+                    listed.address = [0x30 + n; 16];
+                    listed.preferred = false;
+                    text.set.push(listed);
+                }
+            }
+            15 => draft.nonces[r.index(7) + 1] = draft.nonces[0],
+            16 if !outstanding.is_empty() => draft.nonces[r.index(8)] = r.pick(&outstanding),
+            17 => draft.authentic = false,
+            18..=19 => draft.buffer = r.pick(&[0, 1, 47, 48, 383, 383]),
+            20 => text.echo = Some((0..8).map(|_| r.byte()).collect()),
+            21 => text.echo = Some((0..r.index(20)).map(|_| r.byte()).collect()),
+            22 if text.echo.is_some() => {
+                // An outstanding nonce, cut short or with more after it.
+                let mut echo = text.echo.clone().unwrap_or_default();
+                echo.resize(r.pick(&[0, 4, 7, 9, 12, 16]), 0);
+                text.echo = Some(echo);
+            }
+            _ if !self.past_nonces.is_empty() => {
+                let mut choices = &self.past_nonces;
+                if !self.just_ended.is_empty() && r.percent(50) {
+                    choices = &self.just_ended;
+                }
+                draft.reply = r.percent(60);
+                text.echo = Some(r.pick(choices).to_be_bytes().to_vec());
+            }
+            _ => draft.authentic = false,
+        }
+    }
+
+    /// One thing wrong with the run of parameters.
+    fn spoil_parameters(&mut self, parameters: &mut Vec<Written>) {
+        let r = &mut self.random;
+        let place = r.index(parameters.len());
+        let set = parameters.iter_mut().find(|(kind, _)| *kind == LOCATOR_SET);
+        if let (Some((_, body)), true) = (set, r.percent(20)) {
+            // Traffic type, locator type, length and P of the first locator.
+            if body.len() > 3 {
+                body[r.index(4)] = r.pick(&[0, 1, 2, 3, 4, 5, 6, 255]);
+            }
+            return;
+        }
+        match r.below(9) {
+            0 => {
+                parameters.remove(place);
+            }
+            1 => parameters.insert(place, parameters[place].clone()),
+            2 => parameters.swap(place, 0),
+            3 => {
+                let kinds = [1, 63, 67, 195, 513, 899, 963, 61_507, 65_535];
+                parameters.push((r.pick(&kinds), vec![0; r.index(12)]));
+                parameters.sort_by_key(|(kind, _)| *kind);
+            }
+            4 => {
+                parameters.push((ECHO_REQUEST_SIGNED, vec![1; 8]));
+                parameters.sort_by_key(|(kind, _)| *kind);
+            }
+            5 => {
+                let length = r.pick(&[0, 0, 1, 3, 4, 6, 8, 11, 13, 16, 24]);
+                parameters[place].1.resize(length, 0);
+            }
+            6 => {
+                let extra = r.index(9);
+                parameters[place].1.extend(vec![r.byte(); extra]);
+            }
+            7 => {
+                let kinds = [ESP_INFO, LOCATOR_SET, SEQ, ACK, ECHO_RESPONSE_SIGNED];
+                let kind = r.pick(&kinds);
+                parameters.retain(|(other, _)| *other != kind);
+            }
+            _ => parameters.clear(),
+        }
+    }
+
+    /// Sets reserved bits, which are not judged; now and then fills the packet
+    /// up to the largest size or past it.
+    fn colour_parameters(&mut self, parameters: &mut Vec<Written>) {
+        let r = &mut self.random;
+        for (kind, body) in parameters.iter_mut() {
+            if r.percent(5) && *kind == ESP_INFO {
+                body[r.index(2)] = r.byte();
+            }
+            if r.percent(5) && *kind == LOCATOR_SET && body.len() > 3 {
+                body[3] |= r.byte() & 0xfe;
+            }
+        }
+        let length = packet(parameters).len();
+        if r.percent(1) && length < 2000 {
+            let room = r.pick(&[2040, 2048, 2048, 2056]) - length;
+            parameters.push((65_532, vec![7; room - 4]));
+            parameters.sort_by_key(|(kind, _)| *kind);
+        }
+    }
+
+    /// Sets header bits and padding, which are not judged.
+    fn colour_bytes(&mut self, packet: &mut [u8], parameters: &[Written]) {
+        let r = &mut self.random;
+        if r.percent(20) {
+            packet[3] |= r.byte() & 0x0e;
+            packet[4 + r.index(36)] = r.byte();
+        }
+        if r.percent(90) {
+            return;
+        }
+        let mut place = HEADER_LENGTH;
+        for (_, body) in parameters {
+            let next = place + bytes_in_all(body.len());
+            packet[place + 4 + body.len()..next].fill(r.byte());
+            place = next;
+        }
+    }
+
+    /// Changes bytes anywhere, or the length.
+    fn damage(&mut self, packet: &mut Vec<u8>) {
+        let r = &mut self.random;
+        match r.below(10) {
+            0..=2 => {
+                let place = r.index(packet.len());
+                packet[place] ^= 1 << r.below(8);
+            }
+            3..=4 if packet.len() > 40 => {
+                let place = 40 + r.index(packet.len() - 40);
+                packet[place] ^= 1 << r.below(8);
+            }
+            5 => {
+                let place = r.index(packet.len());
+                packet[place] = r.byte();
+            }
+            6 => {
+                let place = r.index(4);
+                packet[place] ^= 1 << r.below(8);
+            }
+            7 => {
+                let length = r.index(packet.len() + 1);
+                packet.truncate(length);
+            }
+            8 => {
+                let units = r.index(packet.len() / 8 + 1);
+                packet.truncate(units * 8);
+                if packet.len() > 1 {
+                    set_header_length(packet);
+                }
+            }
+            _ => {
+                let more = r.pick(&[1, 4, 8, 16, 24, 2048]);
+                let length = packet.len() + more;
+                packet.resize(length, 0);
+                if r.percent(70) {
+                    set_header_length(packet);
+                }
+            }
+        }
+    }
+
+    /// A record whose sections do not fit its call.
+    fn malformed(&mut self) -> Sections {
+        let r = &mut self.random;
+        let good = [1; 16];
+        let wide = 1 << 32;
+        match r.below(16) {
+            0 => sections(&[], &[], &[]),
+            1 => sections(&[5 + r.below(3)], &[], &[]),
+            2 => sections(&[0, 1, 1, 1], &good, &[]),
+            3 => sections(&[0, 1, wide, 1, 1], &good, &[]),
+            4 => sections(&[0, 1, 1, wide, 1], &good, &[]),
+            5 => sections(&[0, 1, 1, 1, wide], &good, &[]),
+            6 if r.percent(50) => sections(&[0, 1, 1, 1, 1], &good[..r.index(16)], &[]),
+            6 => sections(&[0, 1, 1, 1, 1], &[1; 17], &[]),
+            7 => sections(&[0, 1, 1, 1, 1], &good, &[1]),
+            8 => sections(&[1, 2, 384], &good, &[1; 8]),
+            9 => sections(&[1, 1, 65_536], &good, &[1; 8]),
+            10 => sections(&[1, 1, 384], &good, &vec![1; r.pick(&[0, 7, 9])]),
+            11 => sections(&[2 + r.below(3), 1], &[1], &[]),
+            12 => sections(&[2 + r.below(3), 1], &[], &[1]),
+            13 => sections(&[1 + r.below(4)], &[], &[]),
+            14 => sections(&[u64::MAX, 1], &[], &[]),
+            _ => {
+                let mut record = sections(&[2 + r.below(3), 1], &[], &[]);
+                record.numbers.truncate(1 + r.index(15));
+                if record.numbers.len() == 8 {
+                    record.numbers.push(0);
+                }
+                record
+            }
+        }
+    }
+}
+
+impl Draft {
+    fn parameters(&self) -> Vec<Written> {
+        if !self.reply {
+            return self.text.parameters();
+        }
+        let mut parameters = self.text.others.clone();
+        if !self.text.acks.is_empty() {
+            parameters.push(ack(&self.text.acks));
+        }
+        if let Some(echo) = &self.text.echo {
+            parameters.push(echo_response(echo));
+        }
+        parameters.sort_by_key(|(kind, _)| *kind);
+        parameters
+    }
+}
+
+impl Style {
+    fn new(r: &mut Random) -> Style {
+        let mut pool: Vec<[u8; 16]> = LEGAL.iter().map(|text| address(text)).collect();
+        r.shuffle(&mut pool);
+        pool.truncate(r.pick(&[4, 9, 12, 12, 26]));
+        Style {
+            pool,
+            answers: r.pick(&[5, 30, 40, 60]),
+            new_spis: r.pick(&[0, 10, 10, 30]),
+            spoilt: r.pick(&[10, 45, 55, 60]),
+            bursts: r.pick(&[0, 0, 0, 3]),
+            first_id: match r.below(8) {
+                0 => 0,
+                1 => u32::MAX - r.below(40) as u32,
+                2 => u32::MAX - r.below(2) as u32,
+                3 => r.number() as u32,
+                _ => 1 + r.below(100) as u32,
+            },
+            calls: r.pick(&[20, 100, 300, 1000, 2500]),
+        }
+    }
+}
+
+fn lifetime(r: &mut Random) -> u32 {
+    match r.below(12) {
+        0 => 1,
+        1..=2 => 1 + r.below(12) as u32,
+        3..=5 => 60,
+        6..=9 => 200 + r.below(2000) as u32,
+        10 => r.number() as u32 | 1,
+        _ => u32::MAX,
+    }
+}
