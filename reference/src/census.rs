@@ -6,6 +6,9 @@ use std::io::{self, Write};
 use crate::reasons::Notes;
 use crate::replay::{for_each_record, open, Player};
 
+/// A trace that ends inside a record.
+const TORN_END: &str = "trace: torn end";
+
 /// The cases that a thorough trace meets. Two refusals are not among them:
 /// refusal 0, since no call from a start on leads to such an association, and
 /// refusal 11, which needs over 2^29 messages of eight checks each.
@@ -37,6 +40,9 @@ pub const CASES: &[&str] = &[
     "no association: arrival",
     "no association: send",
     "no association: tick",
+    // The trace itself.
+    "trace: three sections of 65,535 bytes",
+    TORN_END,
     // Malformed records.
     "malformed: before any association",
     "malformed: no numbers",
@@ -319,7 +325,7 @@ impl Census {
     }
 }
 
-/// The census of a whole trace; nothing if it is torn or cannot be read.
+/// The census of a trace; nothing if it cannot be opened.
 pub fn census_of(name: &str) -> io::Result<Option<Census>> {
     let Some(mut reader) = open(name) else {
         return Ok(None);
@@ -332,7 +338,10 @@ pub fn census_of(name: &str) -> io::Result<Option<Census>> {
         census.add(&notes);
         Ok(())
     })?;
-    Ok(whole.then_some(census))
+    if !whole {
+        census.counts.insert(TORN_END, 1);
+    }
+    Ok(Some(census))
 }
 
 /// Prints the counts and what is missing; true if nothing is.

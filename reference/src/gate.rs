@@ -22,6 +22,14 @@ const RANDOM_PARTS: [(u64, u64); 6] = [
     (106, 250),
 ];
 
+/// The end of the trace: an arrival's record, torn after its number.
+pub fn torn_end() -> Vec<u8> {
+    let mut tracer = Tracer::default();
+    tracer.record(&sections(&[2, 1], &[], &[]));
+    tracer.bytes.truncate(2 + 16 + 2);
+    tracer.bytes
+}
+
 pub fn trace() -> Vec<u8> {
     let mut script = Script::default();
     before_a_start(&mut script);
@@ -294,6 +302,11 @@ fn malformed_records(s: &mut Script) {
         s.record(sections(&[call, 200], &[], &[0]));
         s.record(sections(&[call, 200], &[0], &[0]));
     }
+    s.record(Sections {
+        numbers: vec![0; 65_535],
+        bytes: vec![1; 65_535],
+        nonces: vec![2; 65_535],
+    });
     s.record(sections(&[1, 1, 384], &good, &nonces));
 }
 

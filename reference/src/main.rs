@@ -24,7 +24,7 @@ use std::process::ExitCode;
 const USAGE: &str = "usage:
   reference replay FILE        print the answers and states of a trace
   reference random SEED CALLS  write a random trace
-  reference gate FILE..        write the trace that meets every case, and FILEs
+  reference gate FILE..        write the trace that meets every case, with FILEs in it
   reference assemble TEXT      write the trace that a readable text describes
   reference census FILE        count the cases that a trace meets
 ";
@@ -60,6 +60,7 @@ fn command(words: &[&str], out: &mut impl Write) -> io::Result<u8> {
             for name in names {
                 out.write_all(&std::fs::read(name)?)?;
             }
+            out.write_all(&gate::torn_end())?;
             Ok(0)
         }
         ["assemble", name] => assemble(name, out),

@@ -31,6 +31,10 @@ pub struct Player {
 
 impl Player {
     pub fn run(&mut self, record: &Sections, notes: &mut Notes) -> Answer {
+        let longest = usize::from(u16::MAX);
+        let all = [&record.numbers, &record.bytes, &record.nonces];
+        let full = all.iter().all(|section| section.len() == longest);
+        notes.add_if(full, "trace: three sections of 65,535 bytes");
         match understand(record) {
             Ok(call) => self.call(&call, notes),
             Err(faults) => {

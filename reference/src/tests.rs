@@ -488,7 +488,7 @@ fn the_gate_trace_meets_every_case() {
         env!("CARGO_MANIFEST_DIR"),
         "/../crates/replay/data/gate.trace"
     );
-    let census = census_of(name).unwrap().expect("a whole trace");
+    let census = census_of(name).unwrap().expect("the committed trace");
     assert_eq!(census.missing(), Vec::<&str>::new());
     assert!(census.records >= 2000);
 }
