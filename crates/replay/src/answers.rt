@@ -23,14 +23,14 @@ ghost use lib.ListN.{length};
 ghost use Rattle.trace.specs.Calls.{roomLimit};
 
 // Where the next text goes, and the association after the calls so far, if one was started.
-pub struct Run {
+pub(crate) struct Run {
     pub used: usize,
     pub is_started: bool,
     pub association: Association,
 }
 
 // The run with another place for the next text.
-pub fn at_place(run: Run, used: usize) -> Run {
+pub(crate) fn at_place(run: Run, used: usize) -> Run {
     let association = run.association;
     Run {
         used,
@@ -242,7 +242,7 @@ fn begin_line(index: u64, call: Call, run: Run, out: &mut [u8]) -> Run {
 }
 
 // Replays record `index` of a trace: its line, and the state after it.
-pub fn replay_record(
+pub(crate) fn replay_record(
     s: &[u8],
     found: Record,
     index: u64,

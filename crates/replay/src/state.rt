@@ -13,7 +13,7 @@ use text::put_decimal;
 use text::put_hex;
 
 // A word, and a number after it.
-pub fn put_field(out: &mut [u8], at: usize, word: &[u8], n: u64) -> usize {
+pub(crate) fn put_field(out: &mut [u8], at: usize, word: &[u8], n: u64) -> usize {
     let at = put(out, at, word);
     put_decimal(out, at, n)
 }
@@ -108,7 +108,7 @@ fn put_head(out: &mut [u8], at: usize, a: Association) -> usize {
 }
 
 // Puts the state of an association, and answers where the next text goes.
-pub fn put_state(out: &mut [u8], at: usize, a: Association) -> usize {
+pub(crate) fn put_state(out: &mut [u8], at: usize, a: Association) -> usize {
     let slots = a.slots;
     let at = put_head(out, at, a);
     put_slots(out, at, slots)

@@ -1,4 +1,4 @@
--- A run of records: "Each record is three sections, each after its 16-bit count of bytes."
+-- A run of records. Each is three sections, one after another, and each section stands after its count of bytes, a number of 16 bits.
 use Prim.Native.Nat.{ℕ, _+_, _-_}
 use mathlib.Core.Bool.{cond}
 use mathlib.Core.List.{List}
@@ -12,7 +12,7 @@ use Rattle.sections.specs.declared.SectionStep.the-variants.{Present, Cu
 use Rattle.sections.specs.declared.RecordStep.{RecordStep}
 use Rattle.sections.specs.declared.RecordStep.the-variants.{Whole, Torn, End}
 
--- the bytes of a count: "16-bit"
+-- the bytes of a count
 abbrev pub countSize : ℕ
 countSize = 2
 

@@ -4,8 +4,8 @@ use mathlib.Core.Path.{_≡_, refl, sym, ap, _∙_}
 use mathlib.Core.Bool.{Bool, true, false, cond}
 use mathlib.Core.List.{List, [], _∷_, _++_}
 use lib.Dec.{leb}
-use lib.ListN.{length, take, drop, getD, set, take-append-drop, length-append}
-use lib.Seq.{take-suc, take-all, length-take-le}
+use lib.ListN.{length, take, drop, getD, take-append-drop, length-append}
+use lib.Seq.{take-suc, take-all}
 use borrow.Author.Tests.{le-leb, lt-leb}
 use native.Mathlib.Omega.{arith}
 use Rattle.writer.specs.Writes.{writtenAt}

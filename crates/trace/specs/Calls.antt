@@ -1,5 +1,6 @@
--- The calls of a trace: "first which call, then its arguments" (document 02, order 6, whose records a trace's are). A message also has the host's mark and
--- the length of the reply buffer.
+-- The calls of a trace. A record's first section has numbers: which call it is, and then the call's arguments in the order in which document 01 names
+-- them; a message has the host's mark and the length of its reply buffer. The second section is a message's packet or a start's address, the third a
+-- message's nonces.
 use Prim.Native.Nat.{ℕ, _+_, _*_, _^_}
 use mathlib.Core.Bool.{Bool, cond, _&&_}
 use mathlib.Core.List.{List, [], _∷_, map}
@@ -14,7 +15,7 @@ use Rattle.trace.specs.declared.MessageCall.{MessageCall}
 use Rattle.trace.specs.declared.Call.{Call}
 use Rattle.trace.specs.declared.Call.the-variants.{Start, Message, Arrival, Send, Tick, Malformed}
 
--- "Calls are start 0, message 1, arrival 2, send 3, tick 4"
+-- the first number: which call
 abbrev pub startNumber : ℕ
 startNumber = 0
 
@@ -30,7 +31,7 @@ sendNumber = 3
 abbrev pub tickNumber : ℕ
 tickNumber = 4
 
--- "8 bytes each, big-endian", and 16 of an address
+-- the bytes of a number, and "16 address bytes"
 abbrev pub numberSize : ℕ
 numberSize = 8
 

@@ -1,5 +1,4 @@
 -- `sections::section_at` meets its contract, by the tests that led to each answer. Assumes nothing.
-use mathlib.Core.Path.{sym, ap, _∙_}
 use native.Mathlib.Omega.{arith}
 use Rattle.sections.proofs.Steps.{section-cut, section-present}
 use borrow.Author.Needs.{needs}

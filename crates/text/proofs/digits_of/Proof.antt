@@ -1,12 +1,11 @@
 -- `text::digits_of` meets its contract. The loop: what is left of the number stands before the digits from `first` on. Assumes nothing.
-use Prim.Native.Nat.{ℕ, _+_, _-_, _*_, _/_, _%_, _^_, _≤_, _<_}
-use mathlib.Core.Path.{_≡_, refl, sym, ap, _∙_}
-use mathlib.Core.List.{List, [], _∷_, _++_}
+use Prim.Native.Nat.{_-_, _^_, _<_}
+use mathlib.Core.Path.{_≡_, refl, sym, _∙_}
+use mathlib.Core.List.{_++_}
 use native.Mathlib.Omega.{arith}
 use lib.ListN.{length, drop, length-set}
-use Rattle.text.specs.Texts.{glyphOf, digitsOf, decimalOf}
+use Rattle.text.specs.Texts.{digitsOf, decimalOf}
 use Rattle.text.proofs.Places.{no-digits, place-left, next-digit}
-use borrow.Author.Needs.{needs}
 use Rattle.text.proofs.digits_of.Statement.{statement}
 use Rattle.text.proofs.digits_of.Tie as tie
 

@@ -8,7 +8,6 @@ use lib.Seq.{length-take-le}
 use Rattle.writer.specs.Writes.{writtenAt}
 use Rattle.writer.proofs.Stores.{stored}
 use Rattle.text.proofs.Puts.{put-beyond, end-within, kept-length, plain, begun, onward, ended}
-use borrow.Author.Needs.{needs}
 use Rattle.text.proofs.put.Statement.{statement}
 use Rattle.text.proofs.put.Tie as tie
 

@@ -1,15 +1,14 @@
 -- `text::put_hex` meets its contract. The loop: the first i bytes are written. Assumes nothing.
-use Prim.Native.Nat.{ℕ, _+_, _-_, _*_, _/_, _%_, _≤_}
-use mathlib.Core.Path.{_≡_, refl, sym, ap, _∙_}
-use mathlib.Core.List.{List, [], _∷_}
+use Prim.Native.Nat.{_+_, _-_, _*_, _/_, _%_, _≤_}
+use mathlib.Core.Path.{_≡_, _∙_}
+use mathlib.Core.List.{[], _∷_}
 use native.Mathlib.Omega.{arith}
-use lib.ListN.{length, take, getD, set, length-set}
+use lib.ListN.{length, take, getD, length-set}
 use lib.Seq.{length-take-le}
 use Rattle.writer.specs.Writes.{writtenAt}
 use Rattle.writer.proofs.Stores.{stored}
-use Rattle.text.specs.Texts.{glyphOf, hexOf, endOf}
+use Rattle.text.specs.Texts.{glyphOf, hexOf}
 use Rattle.text.proofs.Puts.{put-beyond, end-within, kept-length, hex, hex-length, hex-byte, begun, onward, ended}
-use borrow.Author.Needs.{needs}
 use Rattle.text.proofs.put_hex.Statement.{statement}
 use Rattle.text.proofs.put_hex.Tie as tie
 

@@ -1,7 +1,6 @@
 -- `trace::plain_of` meets its contract. Assumes nothing.
 use borrow.Author.Tests.{ne-eqb}
 use Rattle.trace.specs.Calls.{plainOf}
-use borrow.Author.Needs.{needs}
 use Rattle.trace.proofs.plain_of.Statement.{statement}
 use Rattle.trace.proofs.plain_of.Tie as tie
 
