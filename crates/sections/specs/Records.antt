@@ -1,7 +1,9 @@
 -- A run of records. Each is three sections, one after another, and each section stands after its count of bytes, a number of 16 bits.
-use Prim.Native.Nat.{ℕ, _+_, _-_}
+use Prim.Native.Nat.{ℕ, _+_, _-_, min}
+use mathlib.Core.Path.{_≡_}
 use mathlib.Core.Bool.{cond}
 use mathlib.Core.List.{List}
+use denote.Ref.{RefT, ptr, now}
 use lib.Dec.{ltb, leb}
 use lib.ListN.{length, take, drop}
 use Rattle.octets.specs.Numbers.{numberAt}
@@ -23,6 +25,12 @@ sizeOf section = section .end - section .start
 -- the bytes of s in a section
 abbrev pub bytesIn : List ℕ → Section → List ℕ
 bytesIn s section = take (sizeOf section) (drop (section .start) s)
+
+-- r is s's own part in a section, as far as s has it: it points into the memory of s, at that place, and holds the bytes there
+pub record Part (s : RefT (List ℕ)) (section : Section) (r : RefT (List ℕ)) : Type 0 where
+  pub memory : ptr r .0 ≡ ptr s .0
+  pub offset : ptr r .1 ≡ ptr s .1 + min (section .start) (min (section .end) (length (now s)))
+  pub bytes : now r ≡ bytesIn (now s) section
 
 -- the section whose count stands at `at`
 abbrev pub sectionAt : List ℕ → ℕ → Section

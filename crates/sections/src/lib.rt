@@ -1,7 +1,7 @@
 // A record of three sections, each after its count of bytes: what a trace is a run of. Depends on octets.
 ghost use mathlib.Core.Path.{_≡_};
 ghost use Prim.Native.Nat.{min};
-ghost use Rattle.sections.specs.Records.{sizeOf, bytesIn, sectionStepAt, recordStepAt};
+ghost use Rattle.sections.specs.Records.{sizeOf, Part, sectionStepAt, recordStepAt};
 
 // The bytes of a section's count.
 const COUNT_SIZE: usize = 2;
@@ -47,9 +47,9 @@ fn least(a: usize, b: usize) -> usize
     if a < b { a } else { b }
 }
 
-// The section's bytes, as far as s has them.
+// The part of s in a section, as far as s has it. It is lent for as long as s is.
 pub fn part<'s>(s: &'s [u8], section: Section) -> &'s [u8]
-    ensures { λ r. ⌜ now r ≡ bytesIn (now (s .entry)) section ⌝ }
+    ensures { λ r. ⌜ Part (s .entry) section r ⌝ }
 {
     let end = least(section.end, s.len());
     let start = least(section.start, end);

@@ -1,4 +1,6 @@
 -- `sections::part` meets its contract: what is cut out is the section's bytes, as far as there are any. Assumes nothing.
+use mathlib.Core.Path.{refl}
+use native.Mathlib.Omega.{arith}
 use Rattle.sections.proofs.Parts.{clipped}
 use borrow.Author.Needs.{needs}
 use Rattle.sections.proofs.part.Statement.{statement}
@@ -22,7 +24,11 @@ part-result-end c = search needs
 returns : tie.Need-returns
 returns c =
     let a = c .before .before .before .before .args in
-    rw (c .before .least2 .ensures, c .before .before .least .ensures) (clipped (a .s .now) (a .section .start) (a .section .end))
+    record {
+      memory = refl;
+      offset = rw (c .before .least2 .ensures, c .before .before .least .ensures) (omega arith);
+      bytes = rw (c .before .least2 .ensures, c .before .before .least .ensures) (clipped (a .s .now) (a .section .start) (a .section .end));
+    }
 
 pub part-spec : {M : Type 1} → statement M
 part-spec =
