@@ -1,13 +1,16 @@
 // Replays a trace: reads the file that its argument names, a record at a time, makes each record's call, and prints what the call answers and the
 // association that it leaves. docs/DESIGN.md has the form of a trace and of the lines.
-// Crate trace decodes a record and crate text spells numbers; answers.rt makes the calls, state.rt has the lines of the state, and this file reads and
-// writes. Depends on message, payload, clock, association and the crates of their types, on trace, sections and text, and on the kit's os, io and libc.
+// Crate trace decodes a record, crate lines says what each line is, and crate text spells numbers. calls.rt makes the calls; answers.rt, state.rt and
+// words.rt put the lines; this file reads and writes. Depends on message, payload, clock, association and the crates of their types, on trace, sections,
+// lines and text, and on the kit's os, io and libc.
 mod answers;
+mod calls;
 mod state;
+mod words;
 
 use address::Address;
-use answers::Run;
-use answers::at_place;
+use calls::Run;
+use calls::at_place;
 use libc::STDOUT_FILENO;
 use sections::RecordStep;
 use sections::Section;
@@ -79,7 +82,7 @@ fn replay_held(s: &[u8], replay: Replay, reply: &mut [u8; ROOM_LIMIT], out: &mut
         };
         let last = found.nonces;
         run = make_room(out, run);
-        run = answers::replay_record(s, found, index, run, reply, out);
+        run = calls::replay_record(s, found, index, run, reply, out);
         index = wrapping_add_u64(index, 1);
         from = last.end;
     }

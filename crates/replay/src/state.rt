@@ -1,4 +1,7 @@
 // The lines of an association's state.
+use crate::words::put_field;
+use crate::words::put_hex_number;
+use crate::words::put_word;
 use address::Address;
 use association::Association;
 use association::PeerId;
@@ -8,45 +11,37 @@ use slot::Locator;
 use slot::SLOT_COUNT;
 use slot::Slot;
 use slot::Status;
-use text::put;
-use text::put_decimal;
-use text::put_hex;
+ghost use Rattle.lines.specs.Laid.{Laid};
+ghost use Rattle.lines.specs.State.{addressText, statusText, locatorText, slotText, slotsText, peerText, preferenceText, numbersText, headText, stateText};
 
-// A word, and a number after it.
-pub(crate) fn put_field(out: &mut [u8], at: usize, word: &[u8], n: u64) -> usize {
-    let at = put(out, at, word);
-    put_decimal(out, at, n)
-}
-
-// A number of 64 bits in 16 hex digits.
-fn put_hex_number(out: &mut [u8], at: usize, n: u64) -> usize {
-    let mut bytes = [0u8; 8];
-    writer::put_u64(&mut bytes, 0, n);
-    put_hex(out, at, &bytes)
-}
-
-fn put_address(out: &mut [u8], at: usize, address: Address) -> usize {
+fn put_address(out: &mut [u8], at: usize, address: Address) -> usize
+    ensures { λ r. ⌜ Laid (addressText address) at (now (out .entry)) (now (out .exit)) r ⌝ }
+{
     let at = put_hex_number(out, at, address.high);
     put_hex_number(out, at, address.low)
 }
 
-fn put_status(out: &mut [u8], at: usize, status: Status) -> usize {
+fn put_status(out: &mut [u8], at: usize, status: Status) -> usize
+    ensures { λ r. ⌜ Laid (statusText status) at (now (out .entry)) (now (out .exit)) r ⌝ }
+{
     match status {
-        Status::Active => put(out, at, b" active\n"),
-        Status::Deprecated => put(out, at, b" deprecated\n"),
+        Status::Active => put_word(out, at, b" active\n"),
+        Status::Deprecated => put_word(out, at, b" deprecated\n"),
         Status::Unverified(check) => {
-            let at = put(out, at, b" unverified ");
+            let at = put_word(out, at, b" unverified ");
             let at = put_hex_number(out, at, check.nonce);
             let at = put_field(out, at, b" ", check.id as u64);
-            put(out, at, b"\n")
+            put_word(out, at, b"\n")
         }
     }
 }
 
-fn put_locator(out: &mut [u8], at: usize, n: usize, l: Locator) -> usize {
+fn put_locator(out: &mut [u8], at: usize, n: usize, l: Locator) -> usize
+    ensures { λ r. ⌜ Laid (locatorText n l) at (now (out .entry)) (now (out .exit)) r ⌝ }
+{
     let status = l.status;
     let at = put_field(out, at, b"  slot ", n as u64);
-    let at = put(out, at, b" ");
+    let at = put_word(out, at, b" ");
     let at = put_address(out, at, l.address);
     let at = put_field(out, at, b" traffic ", l.traffic as u64);
     let at = put_field(out, at, b" expiry ", l.expiry);
@@ -54,7 +49,9 @@ fn put_locator(out: &mut [u8], at: usize, n: usize, l: Locator) -> usize {
 }
 
 // The line of a slot; none where it is empty.
-fn put_slot(out: &mut [u8], at: usize, n: usize, slot: Slot) -> usize {
+fn put_slot(out: &mut [u8], at: usize, n: usize, slot: Slot) -> usize
+    ensures { λ r. ⌜ Laid (slotText n slot) at (now (out .entry)) (now (out .exit)) r ⌝ }
+{
     let holding = slot.holding;
     match holding {
         Holding::Empty => at,
@@ -62,7 +59,9 @@ fn put_slot(out: &mut [u8], at: usize, n: usize, slot: Slot) -> usize {
     }
 }
 
-fn put_slots(out: &mut [u8], at: usize, slots: [Slot; SLOT_COUNT]) -> usize {
+fn put_slots(out: &mut [u8], at: usize, slots: [Slot; SLOT_COUNT]) -> usize
+    ensures { λ r. ⌜ Laid (slotsText 0 slots) at (now (out .entry)) (now (out .exit)) r ⌝ }
+{
     let mut place = at;
     let mut n = 0;
     while n < SLOT_COUNT {
@@ -72,24 +71,27 @@ fn put_slots(out: &mut [u8], at: usize, slots: [Slot; SLOT_COUNT]) -> usize {
     place
 }
 
-fn put_peer(out: &mut [u8], at: usize, peer: PeerId) -> usize {
+fn put_peer(out: &mut [u8], at: usize, peer: PeerId) -> usize
+    ensures { λ r. ⌜ Laid (peerText peer) at (now (out .entry)) (now (out .exit)) r ⌝ }
+{
     match peer {
-        PeerId::NoneSeen => put(out, at, b" peer -"),
+        PeerId::NoneSeen => put_word(out, at, b" peer -"),
         PeerId::Highest(id) => put_field(out, at, b" peer ", id as u64),
     }
 }
 
-fn put_preference(out: &mut [u8], at: usize, preferred: Preference) -> usize {
+fn put_preference(out: &mut [u8], at: usize, preferred: Preference) -> usize
+    ensures { λ r. ⌜ Laid (preferenceText preferred) at (now (out .entry)) (now (out .exit)) r ⌝ }
+{
     match preferred {
-        Preference::NoPreference => put(out, at, b" preferred -\n"),
-        Preference::Prefers(n) => {
-            let at = put_field(out, at, b" preferred ", n as u64);
-            put(out, at, b"\n")
-        }
+        Preference::NoPreference => put_word(out, at, b" preferred -"),
+        Preference::Prefers(n) => put_field(out, at, b" preferred ", n as u64),
     }
 }
 
-fn put_numbers(out: &mut [u8], at: usize, a: Association) -> usize {
+fn put_numbers(out: &mut [u8], at: usize, a: Association) -> usize
+    ensures { λ r. ⌜ Laid (numbersText a) at (now (out .entry)) (now (out .exit)) r ⌝ }
+{
     let at = put_field(out, at, b"  out ", a.outbound as u64);
     let at = put_field(out, at, b" in ", a.inbound as u64);
     let at = put_field(out, at, b" time ", a.time);
@@ -98,17 +100,22 @@ fn put_numbers(out: &mut [u8], at: usize, a: Association) -> usize {
 }
 
 // The line of what an association holds besides its slots.
-fn put_head(out: &mut [u8], at: usize, a: Association) -> usize {
+fn put_head(out: &mut [u8], at: usize, a: Association) -> usize
+    ensures { λ r. ⌜ Laid (headText a) at (now (out .entry)) (now (out .exit)) r ⌝ }
+{
     let peer = a.peer;
     let preferred = a.preferred;
     let at = put_numbers(out, at, a);
     let at = put_peer(out, at, peer);
     let at = put_field(out, at, b" own ", a.next);
-    put_preference(out, at, preferred)
+    let at = put_preference(out, at, preferred);
+    put_word(out, at, b"\n")
 }
 
-// Puts the state of an association, and answers where the next text goes.
-pub(crate) fn put_state(out: &mut [u8], at: usize, a: Association) -> usize {
+// The state of an association.
+pub(crate) fn put_state(out: &mut [u8], at: usize, a: Association) -> usize
+    ensures { λ r. ⌜ Laid (stateText a) at (now (out .entry)) (now (out .exit)) r ⌝ }
+{
     let slots = a.slots;
     let at = put_head(out, at, a);
     put_slots(out, at, slots)

@@ -29,7 +29,7 @@ pub kept-length : (at : ℕ) (text buffer out : List ℕ) → out ≡ writtenAt 
 kept-length at text buffer out e = ap length e ∙ written-length at text buffer
 
 -- no text changes nothing
-written-none : (at : ℕ) (buffer : List ℕ) → buffer ≡ writtenAt at [] buffer
+pub written-none : (at : ℕ) (buffer : List ℕ) → buffer ≡ writtenAt at [] buffer
 unfolding writtenAt
 written-none at buffer = go (leb (at + 0) (length buffer))
   where

@@ -1,0 +1,59 @@
+-- The line of a record: its number, the call, and what the call answered.
+use Prim.Native.Nat.{ℕ}
+use mathlib.Core.Bool.{cond}
+use mathlib.Core.List.{List, [], _∷_, _++_}
+use lib.Dec.{eqb}
+use lib.ListN.{take}
+use Rattle.refusal.specs.declared.Refusal.{Refusal}
+use Rattle.refusal.specs.Table.{numberOf}
+use Rattle.association.specs.declared.Outcome.{Outcome}
+use Rattle.association.specs.declared.Outcome.the-variants.{Accepted, Refused}
+use Rattle.payload.specs.declared.SendOutcome.{SendOutcome}
+use Rattle.payload.specs.declared.SendOutcome.the-variants.{Granted, Denied}
+use Rattle.update.specs.declared.MessageOutcome.{MessageOutcome}
+use Rattle.update.specs.declared.MessageOutcome.the-variants.{Moved, Replied, Repeated, Declined}
+use Rattle.update.specs.declared.MessageAnswer.{MessageAnswer}
+use Rattle.trace.specs.declared.Call.{Call}
+use Rattle.trace.specs.declared.Call.the-variants.{Start, Message, Arrival, Send, Tick, Malformed}
+use Rattle.text.specs.Texts.{hexOf}
+use Rattle.lines.specs.Words.{word, field}
+
+unfoldable pub nameText : Call → List (List ℕ)
+nameText (Start start) = word " start"
+nameText (Message message) = word " message"
+nameText (Arrival size) = word " arrival"
+nameText (Send size) = word " send"
+nameText (Tick time) = word " tick"
+nameText Malformed = word " malformed"
+
+-- the beginning of a record's line
+unfoldable pub callText : ℕ → Call → List (List ℕ)
+callText index call = field "" index ++ nameText call
+
+unfoldable pub refusalText : Refusal → List (List ℕ)
+refusalText why = field " refused " (numberOf why) ++ word "\n"
+
+unfoldable pub outcomeText : Outcome → List (List ℕ)
+outcomeText Accepted = word " accepted\n"
+outcomeText (Refused why) = refusalText why
+
+unfoldable pub sendText : SendOutcome → List (List ℕ)
+sendText (Granted slot) = field " granted slot " slot ++ word "\n"
+sendText (Denied why) = refusalText why
+
+unfoldable pub countsText : MessageAnswer → List (List ℕ)
+countsText answer = field " reply " (answer .written) ++ (field " checks " (answer .checks) ++ field " keymat " (answer .keymat))
+
+-- the bytes of a reply follow only where there are any
+unfoldable pub replyText : MessageAnswer → (buffer : List ℕ) → List (List ℕ)
+replyText answer buffer =
+    countsText answer ++ cond (eqb (answer .written) 0) (word "\n") (word " " ++ ((hexOf (take (answer .written) buffer) ∷ []) ++ word "\n"))
+
+abbrev pub endingText : MessageOutcome → MessageAnswer → (buffer : List ℕ) → List (List ℕ)
+endingText Moved answer buffer = word " accepted" ++ replyText answer buffer
+endingText Replied answer buffer = word " accepted" ++ replyText answer buffer
+endingText Repeated answer buffer = word " repeated" ++ replyText answer buffer
+endingText (Declined why) answer buffer = refusalText why
+
+unfoldable pub messageText : MessageAnswer → (buffer : List ℕ) → List (List ℕ)
+messageText answer buffer = endingText (answer .outcome) answer buffer

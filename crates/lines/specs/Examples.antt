@@ -1,0 +1,96 @@
+-- Worked examples, computed from the definitions.
+use Prim.Native.Nat.{ℕ}
+use mathlib.Core.Path.{_≡_, refl}
+use mathlib.Core.List.{[], _∷_, map}
+use Rattle.octets.specs.Written.{bytesOf}
+use Rattle.text.specs.Texts.{hexOf, digitsOf, decimalOf}
+use Rattle.refusal.specs.Table.{refusal}
+use Rattle.slot.specs.declared.Slot.{Slot}
+use Rattle.slot.specs.declared.Holding.the-variants.{Empty, Held}
+use Rattle.slot.specs.declared.Status.{Status}
+use Rattle.slot.specs.declared.Status.the-variants.{Unverified, Active, Deprecated}
+use Rattle.path.specs.declared.Preference.the-variants.{NoPreference, Prefers}
+use Rattle.association.specs.declared.PeerId.the-variants.{NoneSeen, Highest}
+use Rattle.association.specs.declared.Association.{Association}
+use Rattle.association.specs.declared.Outcome.the-variants.{Accepted, Refused}
+use Rattle.payload.specs.declared.SendOutcome.the-variants.{Granted, Denied}
+use Rattle.update.specs.declared.MessageOutcome.{MessageOutcome}
+use Rattle.update.specs.declared.MessageOutcome.the-variants.{Moved, Replied, Repeated, Declined}
+use Rattle.update.specs.declared.MessageAnswer.{MessageAnswer}
+use Rattle.trace.specs.declared.Call.the-variants.{Arrival, Malformed}
+use Rattle.lines.specs.Laid.{joined}
+use Rattle.lines.specs.Words.{ascii}
+use Rattle.lines.specs.State.{addressText, statusText, locatorText, slotText, slotsText, peerText, preferenceText, numbersText, headText, stateText}
+use Rattle.lines.specs.Answers.{nameText, callText, refusalText, outcomeText, sendText, countsText, replyText, messageText}
+
+-- slot n holds 2001:db8::low
+abbrev held : ℕ → Status → Slot
+held low status = record { holding = Held (record { address = record { high = 0x20010db800000000; low = low }; traffic = 0; expiry = 160; status = status }) }
+
+abbrev empty : Slot
+empty = record { holding = Empty }
+
+-- an association before any message, and one with a check out
+abbrev first : Association
+first = record {
+  outbound = 8193;
+  inbound = 4097;
+  time = 100;
+  aged = 100;
+  credit = 0;
+  peer = NoneSeen;
+  next = 0;
+  preferred = Prefers 0;
+  slots = held 1 Active ∷ empty ∷ [];
+}
+
+abbrev second : Association
+second = record {
+  outbound = 8193;
+  inbound = 4097;
+  time = 100;
+  aged = 95;
+  credit = 400;
+  peer = Highest 7;
+  next = 1;
+  preferred = NoPreference;
+  slots = held 1 Deprecated ∷ empty ∷ held 2 (Unverified (record { nonce = 0x0102030405060708; id = 0 })) ∷ [];
+}
+
+-- an empty slot has no line
+states : map (λ (a : Association). joined (stateText a)) (first ∷ second ∷ [])
+    ≡ map ascii
+    ("  out 8193 in 4097 time 100 aged 100 credit 0 peer - own 0 preferred 0\n  slot 0 20010db8000000000000000000000001 traffic 0 expiry 160 active\n"
+    ∷ "  out 8193 in 4097 time 100 aged 95 credit 400 peer 7 own 1 preferred -\n  slot 0 20010db8000000000000000000000001 traffic 0 expiry 160 deprecated\n  slot 2 20010db8000000000000000000000002 traffic 0 expiry 160 unverified 0102030405060708 0\n"
+    ∷ [])
+unfolding bytesOf hexOf digitsOf decimalOf addressText statusText locatorText slotText slotsText peerText preferenceText numbersText headText stateText
+states = refl
+
+-- the answers of calls
+answers : map joined
+    (callText 8 (Arrival 1)
+    ∷ callText 10 Malformed
+    ∷ outcomeText Accepted
+    ∷ outcomeText (Refused (refusal 16))
+    ∷ sendText (Granted 3)
+    ∷ sendText (Denied (refusal 15))
+    ∷ [])
+    ≡ map ascii ("8 arrival" ∷ "10 malformed" ∷ " accepted\n" ∷ " refused 16\n" ∷ " granted slot 3\n" ∷ " refused 15\n" ∷ [])
+unfolding digitsOf decimalOf nameText callText refusalText outcomeText sendText
+answers = refl
+
+-- what a message answered that wrote so many bytes, with so many checks and KEYMAT Index 7
+abbrev told : MessageOutcome → (written checks : ℕ) → MessageAnswer
+told outcome written checks = record { outcome = outcome; written = written; checks = checks; keymat = 7; association = first }
+
+-- of a buffer of three bytes: a reply of two, one of none, and a refusal
+messages : map (λ (answer : MessageAnswer). joined (messageText answer (1 ∷ 0xc1 ∷ 9 ∷ [])))
+    (told Moved 2 1 ∷ told Repeated 1 0 ∷ told Replied 0 0 ∷ told (Declined (refusal 8)) 0 0 ∷ [])
+    ≡ map ascii
+    (" accepted reply 2 checks 1 keymat 7 01c1\n"
+    ∷ " repeated reply 1 checks 0 keymat 7 01\n"
+    ∷ " accepted reply 0 checks 0 keymat 7\n"
+    ∷ " refused 8\n"
+    ∷ [])
+unfolding hexOf digitsOf decimalOf refusalText countsText replyText messageText
+messages = refl

@@ -1,0 +1,5 @@
+pub mod Laid
+pub mod Words
+pub mod State
+pub mod Answers
+pub mod Examples
