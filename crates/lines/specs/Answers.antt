@@ -18,6 +18,7 @@ use Rattle.trace.specs.declared.Call.the-variants.{Start, Message, Arrival, Sen
 use Rattle.text.specs.Texts.{hexOf}
 use Rattle.lines.specs.Words.{word, field}
 
+-- which call a record stands for, or that it fits none
 unfoldable pub nameText : Call → List (List ℕ)
 nameText (Start start) = word " start"
 nameText (Message message) = word " message"
@@ -30,17 +31,21 @@ nameText Malformed = word " malformed"
 unfoldable pub callText : ℕ → Call → List (List ℕ)
 callText index call = field "" index ++ nameText call
 
+-- a refusal, by its number in document 01's table
 unfoldable pub refusalText : Refusal → List (List ℕ)
 refusalText why = field " refused " (numberOf why) ++ word "\n"
 
+-- what a start, an arrival or a tick answered
 unfoldable pub outcomeText : Outcome → List (List ℕ)
 outcomeText Accepted = word " accepted\n"
 outcomeText (Refused why) = refusalText why
 
+-- what a send answered
 unfoldable pub sendText : SendOutcome → List (List ℕ)
 sendText (Granted slot) = field " granted slot " slot ++ word "\n"
 sendText (Denied why) = refusalText why
 
+-- "The answer tells reply bytes, number of checks, and KEYMAT Index"
 unfoldable pub countsText : MessageAnswer → List (List ℕ)
 countsText answer = field " reply " (answer .written) ++ (field " checks " (answer .checks) ++ field " keymat " (answer .keymat))
 
@@ -49,11 +54,13 @@ unfoldable pub replyText : MessageAnswer → (buffer : List ℕ) → List (List 
 replyText answer buffer =
     countsText answer ++ cond (eqb (answer .written) 0) (word "\n") (word " " ++ ((hexOf (take (answer .written) buffer) ∷ []) ++ word "\n"))
 
+-- what a message answered, by what became of it: a Move and a Reply are accepted
 abbrev pub endingText : MessageOutcome → MessageAnswer → (buffer : List ℕ) → List (List ℕ)
 endingText Moved answer buffer = word " accepted" ++ replyText answer buffer
 endingText Replied answer buffer = word " accepted" ++ replyText answer buffer
 endingText Repeated answer buffer = word " repeated" ++ replyText answer buffer
 endingText (Declined why) answer buffer = refusalText why
 
+-- what a message answered, with the buffer that its reply is in
 unfoldable pub messageText : MessageAnswer → (buffer : List ℕ) → List (List ℕ)
 messageText answer buffer = endingText (answer .outcome) answer buffer

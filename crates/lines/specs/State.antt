@@ -15,9 +15,11 @@ use Rattle.association.specs.declared.PeerId.the-variants.{NoneSeen, Highest}
 use Rattle.association.specs.declared.Association.{Association}
 use Rattle.lines.specs.Words.{word, field, hexNumber}
 
+-- an address: 32 hex digits
 unfoldable pub addressText : Address → List (List ℕ)
 addressText a = hexNumber (a .high) ++ hexNumber (a .low)
 
+-- a status, the end of a locator's line: UNVERIFIED with the nonce and the Update ID of its check
 unfoldable pub statusText : Status → List (List ℕ)
 statusText Active = word " active\n"
 statusText Deprecated = word " deprecated\n"
@@ -34,6 +36,7 @@ abbrev pub holdingText : ℕ → Holding → List (List ℕ)
 holdingText n Empty = []
 holdingText n (Held l) = locatorText n l
 
+-- the line of slot n
 unfoldable pub slotText : ℕ → Slot → List (List ℕ)
 slotText n slot = holdingText n (slot .holding)
 
@@ -42,14 +45,17 @@ unfoldable pub slotsText : ℕ → List Slot → List (List ℕ)
 slotsText n [] = []
 slotsText n (slot ∷ slots) = slotText n slot ++ slotsText (suc n) slots
 
+-- the highest Update ID of the peer, or that none was seen
 unfoldable pub peerText : PeerId → List (List ℕ)
 peerText NoneSeen = word " peer -"
 peerText (Highest id) = field " peer " id
 
+-- the preferred slot, or that there is none
 unfoldable pub preferenceText : Preference → List (List ℕ)
 preferenceText NoPreference = word " preferred -"
 preferenceText (Prefers n) = field " preferred " n
 
+-- the SPIs, the clock and the credit
 unfoldable pub numbersText : Association → List (List ℕ)
 numbersText a =
     field "  out " (a .outbound)
@@ -59,5 +65,6 @@ numbersText a =
 unfoldable pub headText : Association → List (List ℕ)
 headText a = numbersText a ++ (peerText (a .peer) ++ (field " own " (a .next) ++ (preferenceText (a .preferred) ++ word "\n")))
 
+-- all lines of a state
 unfoldable pub stateText : Association → List (List ℕ)
 stateText a = headText a ++ slotsText 0 (a .slots)

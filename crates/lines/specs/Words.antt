@@ -11,6 +11,7 @@ abbrev pub ascii : String → List ℕ
 ascii none = []
 ascii (c before text) = code c ∷ ascii text
 
+-- a word by itself
 abbrev pub word : String → List (List ℕ)
 word text = ascii text ∷ []
 

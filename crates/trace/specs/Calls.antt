@@ -38,7 +38,7 @@ numberSize = 8
 abbrev pub addressSize : ℕ
 addressSize = 16
 
--- "eight nonces of 8 bytes"
+-- "eight nonces of 8 bytes": the number of them, as `readdress` has it too
 abbrev pub nonceCount : ℕ
 nonceCount = 8
 
@@ -61,6 +61,7 @@ isStart s r =
     && (eqb (numberOf s (r .numbers) 0) startNumber
     && (isNarrow (numberOf s (r .numbers) 2) && (isNarrow (numberOf s (r .numbers) 3) && isNarrow (numberOf s (r .numbers) 4))))
 
+-- what a start is given
 abbrev pub startOf : List ℕ → Record → StartCall
 startOf s r = record {
   time = numberOf s (r .numbers) 1;
@@ -80,6 +81,7 @@ isMessage s r =
     hasSizes r (3 * numberSize) (sizeOf (r .body)) (nonceCount * numberSize)
     && (eqb (numberOf s (r .numbers) 0) messageNumber && (leb (numberOf s (r .numbers) 1) 1 && leb (numberOf s (r .numbers) 2) roomLimit))
 
+-- what a message is given besides its packet and nonces
 abbrev pub messageOf : List ℕ → Record → MessageCall
 messageOf s r = record { authentic = eqb (numberOf s (r .numbers) 1) 1; room = numberOf s (r .numbers) 2 }
 
