@@ -15,24 +15,27 @@ use Rattle.slot.specs.Clashes.{clash}
 use Rattle.slots.specs.Rules.{clashing}
 use Rattle.path.specs.declared.Preference.{Preference}
 use Rattle.path.specs.declared.Preference.the-variants.{NoPreference, Prefers}
+use Rattle.refusal.specs.declared.Refusal.the-variants.{BadStart}
 use Rattle.association.specs.declared.PeerId.the-variants.{NoneSeen}
+use Rattle.association.specs.declared.Outcome.the-variants.{Accepted, Refused}
 use Rattle.association.specs.declared.Association.{Association}
-use Rattle.association.specs.Form.{refusal0, accepted, refused}
+use Rattle.association.specs.Form.{refusal0, withCredit, withClock, accepted, refused}
 use Rattle.association.specs.Start.{noAssociation, started, startOf}
 
 abbrev holding : (low : ℕ) → Status → Slot
 holding low s = slotOf (record { address = record { high = 0x20010db800000000; low = low }; traffic = 0; expiry = 160; status = s })
 
-abbrev checked : (nonce : ℕ) → Status
-checked nonce = Unverified (record { nonce = nonce; id = 0 })
+-- UNVERIFIED, with this check
+abbrev waiting : (nonce id : ℕ) → Status
+waiting nonce id = Unverified (record { nonce = nonce; id = id })
 
 abbrev with : (time aged credit next : ℕ) → Preference → List Slot → Association
 with time aged credit next p slots =
     record { outbound = 8193; inbound = 4097; time = time; aged = aged; credit = credit; peer = NoneSeen; next = next; preferred = p; slots = slots }
 
--- two addresses, one nonce outstanding for each
+-- two addresses, 1 with nonce 7 outstanding by Update ID 0, and this one with this nonce by Update ID 1
 abbrev two : (low nonce : ℕ) → List Slot
-two low nonce = emptySlot ∷ holding 1 (checked 7) ∷ emptySlot ∷ emptySlot ∷ emptySlot ∷ emptySlot ∷ emptySlot ∷ holding low (checked nonce) ∷ []
+two low nonce = emptySlot ∷ holding 1 (waiting 7 0) ∷ emptySlot ∷ emptySlot ∷ emptySlot ∷ emptySlot ∷ emptySlot ∷ holding low (waiting nonce 1) ∷ []
 
 -- each breaks one condition, by as little as can be
 abbrev broken : List Association
@@ -42,8 +45,12 @@ broken =
     ∷ with 100 100 1048577 0 NoPreference (two 2 8)
     ∷ with 100 100 0 4294967297 NoPreference (two 2 8)
     ∷ with 100 100 0 0 (Prefers 8) (two 2 8)
+    ∷ with 100 100 0 0 (Prefers 9) (two 2 8)
+    ∷ with 100 100 0 0 (Prefers 255) (two 2 8)
     ∷ with 100 100 0 0 NoPreference (two 1 8)
+    -- two equal outstanding nonces, with other Update IDs and with the same
     ∷ with 100 100 0 0 NoPreference (two 2 7)
+    ∷ with 100 100 0 0 NoPreference (holding 1 (waiting 7 0) ∷ holding 2 (waiting 7 0) ∷ replicate 6 emptySlot)
     -- a DEPRECATED locator holds its address, and has no nonce outstanding
     ∷ with 100 100 0 0 NoPreference (holding 1 Active ∷ holding 1 Deprecated ∷ replicate 6 emptySlot)
     ∷ []
@@ -56,9 +63,11 @@ kept =
     ∷ with 100 0 0 0 (Prefers 0) (two 2 8)
     ∷ with 100 100 0 0 NoPreference (holding 1 Active ∷ holding 2 Active ∷ holding 3 Deprecated ∷ holding 4 Deprecated ∷ replicate 4 emptySlot)
     ∷ with 100 100 0 0 NoPreference (replicate 8 emptySlot)
+    -- other nonces by one Update ID
+    ∷ with 100 100 0 0 NoPreference (holding 1 (waiting 7 0) ∷ holding 2 (waiting 8 0) ∷ replicate 6 emptySlot)
     ∷ []
 
-refusal-0 : (map refusal0 broken ≡ replicate 8 true) × (map refusal0 kept ≡ replicate 4 false) × (refusal0 noAssociation ≡ true)
+refusal-0 : (map refusal0 broken ≡ replicate 11 true) × (map refusal0 kept ≡ replicate 5 false) × (refusal0 noAssociation ≡ true)
 unfolding refusal0 clashing records.some clash
 refusal-0 = (refl, refl, refl)
 
@@ -75,7 +84,28 @@ refusal-16 : (startOf (2 ^ 40) 8193 4097 home 60 ≡ refused 16 noAssociation)
 unfolding startOf legal
 refusal-16 = (refl, refl, refl, refl, refl, refl)
 
--- what an accepted start holds
-whole : startOf 100 8193 4097 home 60 ≡ accepted (with 100 100 0 0 (Prefers 0) (holding 1 Active ∷ replicate 7 emptySlot))
+-- "(then no association)": what stands in its place holds nothing
+abbrev nothing : Association
+nothing = record {
+  outbound = 0;
+  inbound = 0;
+  time = 1099511627776;
+  aged = 0;
+  credit = 0;
+  peer = NoneSeen;
+  next = 0;
+  preferred = NoPreference;
+  slots = replicate 8 emptySlot;
+}
+
+-- what an accepted start holds, and a refused one leaves; "A refusal returns its number"
+whole : (startOf 100 8193 4097 home 60
+    ≡ record { outcome = Accepted; association = with 100 100 0 0 (Prefers 0) (holding 1 Active ∷ replicate 7 emptySlot) })
+    × (startOf 100 8193 4097 home 0 ≡ record { outcome = Refused BadStart; association = nothing })
 unfolding startOf legal
-whole = refl
+whole = (refl, refl)
+
+-- an association with another credit; with another clock, credit and slots; all else stays
+changes : (withCredit (with 100 95 7 3 (Prefers 2) (two 2 8)) 9 ≡ with 100 95 9 3 (Prefers 2) (two 2 8))
+    × (withClock (with 100 95 7 3 (Prefers 2) (two 2 8)) 120 118 5 (two 4 6) ≡ with 120 118 5 3 (Prefers 2) (two 4 6))
+changes = (refl, refl)

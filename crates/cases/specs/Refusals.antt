@@ -33,13 +33,13 @@ outbound = 0x2001
 abbrev other : ℕ
 other = 0x2002
 
--- an association at time 100
+-- an association at time 100, where the last ageing was at 97
 abbrev with : (credit peer next preferred : ℕ) → List Slot → Association
 with credit peer next preferred slots = record {
   outbound = outbound;
   inbound = 0x1001;
   time = 100;
-  aged = 100;
+  aged = 97;
   credit = credit;
   peer = Highest peer;
   next = next;
@@ -217,12 +217,16 @@ table =
     ∷ (brings (moveOf other outbound 7 listed) gives refuses 9)
     ∷ (brings (moveOf outbound 0 7 listed) gives refuses 9)
     ∷ (brings (moveOf outbound outbound 7 (bound other 2 ∷ [])) gives refuses 9)
-    -- 10: "not distinct from each other and from those outstanding before", also where the Move brings no new check
+    -- 10: "not distinct from each other and from those outstanding before", also where the Move brings no new check, and where it answers the nonce
     ∷ (message found good true equal buffer gives refuses 10)
     ∷ (message found good true pending buffer gives refuses 10)
     ∷ (message found (moveOf outbound outbound 7 (plain 1 ∷ [])) true pending buffer gives refuses 10)
-    -- 11: "next own ID + new checks over 2^32"; the last own ID may be used
+    ∷ (message found (echoingMove outbound outbound 7 listed 9) true pending buffer gives refuses 10)
+    -- 11: "next own ID + new checks over 2^32"; a Move without new checks is accepted, and the last own ID may be used
     ∷ (message (used (2 ^ 32)) good true nonces buffer gives declined 11 (used (2 ^ 32)) buffer)
+    ∷ (message (used (2 ^ 32)) (moveOf outbound outbound 7 (plain 1 ∷ [])) true nonces buffer
+    gives told Moved 8 0 keymatIndex (with 1000 7 (2 ^ 32) 0 (holding 1 0 160 Active ∷ holding 2 0 130 Deprecated ∷ holding 3 0 130 Deprecated ∷ replicate 5 emptySlot))
+    (1 ∷ 0xc1 ∷ 0 ∷ 4 ∷ 0 ∷ 0 ∷ 0 ∷ 7 ∷ replicate 376 0xff))
     ∷ (statusAfter (address 4) (messageOf (used 4294967295) good true nonces buffer .association)
     gives status (some (checked 0x0102030405060708 4294967295)))
     -- 12: "time before the stored time, or 2^40 or more"

@@ -1,37 +1,9 @@
--- One name for the definitions that a call computes with and that do not unfold by themselves.
+-- One name for the definitions that a case computes with and that do not unfold by themselves.
 use Prim.Native.Nat.{ℕ}
-use Rattle.octets.specs.Records.{records, some}
-use Rattle.octets.specs.Written.{bytesOf}
-use Rattle.address.specs.Rules.{legal}
-use Rattle.parameter.specs.Types.{refusedType, wrongLength}
-use Rattle.parameter.specs.Written.{parameterBytes}
-use Rattle.frame.specs.Parameters.{falls}
-use Rattle.frame.specs.Survey.{occurs}
-use Rattle.locator.specs.Locators.{illForm}
-use Rattle.locator_set.specs.Sets as sets
-use Rattle.packet.specs.Kinds.{isMove, isReply}
-use Rattle.packet.specs.Readings.{kindOf, readingOf}
-use Rattle.slot.specs.Found.{statusIn}
-use Rattle.slot.specs.Clashes.{clash}
-use Rattle.slots.specs.Rules.{clashing}
-use Rattle.path.specs.Choices.{lowest, pathOf}
-use Rattle.credit.specs.Clock.{agedBy}
-use Rattle.association.specs.Form.{refusal0}
-use Rattle.association.specs.Start.{startOf}
-use Rattle.payload.specs.Calls.{arrivalOf, sendOf}
-use Rattle.clock.specs.Ticks.{tickOf}
-use Rattle.readdress.specs.Echoes.{verifyAll}
-use Rattle.readdress.specs.Steps.{rebind, entryFor, renewAll, retireAll, placeAll, markedSlot}
-use Rattle.readdress.specs.Checks.{checkCount, checked, checkFor, twice}
-use Rattle.readdress.specs.Moves.{settled, placed}
-use Rattle.reply.specs.Replies.{checksBytes, moveBytes}
-use Rattle.update.specs.Messages.{afterMove, handleReply, handleMove, handled}
+use Rattle.history.specs.ExamplesUnfolded as examples
 use Rattle.cases.specs.Packets.{joined}
 
 -- to unfold this is to unfold whatever its own line names; its value means nothing
 unfoldable pub calls : ℕ
-unfolding
-    records some bytesOf legal refusedType wrongLength parameterBytes falls occurs illForm sets.twice sets.marks isMove isReply kindOf readingOf
-    statusIn clash clashing lowest pathOf agedBy refusal0 startOf arrivalOf sendOf tickOf verifyAll rebind entryFor renewAll retireAll placeAll
-    markedSlot checkCount checked checkFor twice settled placed checksBytes moveBytes afterMove handleReply handleMove handled joined
+unfolding examples.calls joined
 calls = 0

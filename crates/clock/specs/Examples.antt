@@ -28,19 +28,21 @@ with time aged credit first second =
 abbrev checked : Status
 checked = Unverified (record { nonce = 7; id = 0 })
 
+-- the last ageing at 100, and a tick at 102 since then
 abbrev begun : Association
-begun = with 100 100 1000 Active checked
+begun = with 102 100 1000 Active checked
 
 -- the last ageing is after the time
 abbrev broken : Association
-broken = with 100 101 1000 Active checked
+broken = with 102 103 1000 Active checked
 
-refusals : (map (tickOf begun) (99 ∷ 2 ^ 40 ∷ []) ≡ refused 12 begun ∷ refused 12 begun ∷ []) × (map (tickOf broken) (99 ∷ 100 ∷ []) ≡ refused 0 broken ∷ refused 0 broken ∷ [])
+refusals : (map (tickOf begun) (100 ∷ 101 ∷ 2 ^ 40 ∷ []) ≡ replicate 3 (refused 12 begun))
+    × (map (tickOf broken) (101 ∷ 102 ∷ []) ≡ replicate 2 (refused 0 broken))
 unfolding tickOf refusal0 clashing records.some clash
 refusals = (refl, refl)
 
--- 104 ages nothing, 105 ages once, and so does 117, where one locator expires; at 159 the other is kept, and at 160 it is DEPRECATED
-ticks : map (tickOf begun) (100 ∷ 104 ∷ 105 ∷ 117 ∷ 159 ∷ 160 ∷ [])
+-- 102 and 104 age nothing, 105 ages once, and so does 117, where one locator expires; at 159 the other is kept, and at 160 it is DEPRECATED
+ticks : map (tickOf begun) (102 ∷ 104 ∷ 105 ∷ 117 ∷ 159 ∷ 160 ∷ [])
     ≡ accepted begun
     ∷ accepted (with 104 100 1000 Active checked)
     ∷ accepted (with 105 105 875 Active checked)

@@ -1,9 +1,11 @@
 -- Worked examples, computed from the definitions.
 use Prim.Native.Nat.{ℕ}
 use mathlib.Core.Path.{_≡_, refl}
-use mathlib.Core.List.{[], _∷_, map}
+use mathlib.Core.Bool.{true}
+use mathlib.Core.List.{List, [], _∷_, map}
 use Rattle.octets.specs.Written.{bytesOf}
-use Rattle.text.specs.Texts.{hexOf, digitsOf, decimalOf}
+use Rattle.writer.specs.Writes.{writtenAt}
+use Rattle.text.specs.Texts.{hexOf, digitsOf, decimalOf, endOf}
 use Rattle.refusal.specs.Table.{refusal}
 use Rattle.slot.specs.declared.Slot.{Slot}
 use Rattle.slot.specs.declared.Holding.the-variants.{Empty, Held}
@@ -17,8 +19,8 @@ use Rattle.payload.specs.declared.SendOutcome.the-variants.{Granted, Denied}
 use Rattle.update.specs.declared.MessageOutcome.{MessageOutcome}
 use Rattle.update.specs.declared.MessageOutcome.the-variants.{Moved, Replied, Repeated, Declined}
 use Rattle.update.specs.declared.MessageAnswer.{MessageAnswer}
-use Rattle.trace.specs.declared.Call.the-variants.{Arrival, Malformed}
-use Rattle.lines.specs.Laid.{joined}
+use Rattle.trace.specs.declared.Call.the-variants.{Start, Message, Arrival, Send, Tick, Malformed}
+use Rattle.lines.specs.Laid.{joined, laidOut, laidEnd, Laid}
 use Rattle.lines.specs.Words.{ascii}
 use Rattle.lines.specs.State.{addressText, statusText, locatorText, slotText, slotsText, peerText, preferenceText, numbersText, headText, stateText}
 use Rattle.lines.specs.Answers.{nameText, callText, refusalText, outcomeText, sendText, countsText, replyText, messageText}
@@ -68,14 +70,18 @@ states = refl
 
 -- the answers of calls
 answers : map joined
-    (callText 8 (Arrival 1)
+    (callText 0 (Start (record { time = 1; outbound = 2; inbound = 3; lifetime = 4; address = record { high = 5; low = 6 } }))
+    ∷ callText 1 (Message (record { authentic = true; room = 384 }))
+    ∷ callText 8 (Arrival 1)
+    ∷ callText 9 (Send 1)
+    ∷ callText 11 (Tick 1)
     ∷ callText 10 Malformed
     ∷ outcomeText Accepted
     ∷ outcomeText (Refused (refusal 16))
     ∷ sendText (Granted 3)
     ∷ sendText (Denied (refusal 15))
     ∷ [])
-    ≡ map ascii ("8 arrival" ∷ "10 malformed" ∷ " accepted\n" ∷ " refused 16\n" ∷ " granted slot 3\n" ∷ " refused 15\n" ∷ [])
+    ≡ map ascii ("0 start" ∷ "1 message" ∷ "8 arrival" ∷ "9 send" ∷ "11 tick" ∷ "10 malformed" ∷ " accepted\n" ∷ " refused 16\n" ∷ " granted slot 3\n" ∷ " refused 15\n" ∷ [])
 unfolding digitsOf decimalOf nameText callText refusalText outcomeText sendText
 answers = refl
 
@@ -94,3 +100,20 @@ messages : map (λ (answer : MessageAnswer). joined (messageText answer (1 ∷ 0
     ∷ [])
 unfolding hexOf digitsOf decimalOf refusalText countsText replyText messageText
 messages = refl
+
+-- ---- texts one after another
+-- "ab", nothing, "c" from the second byte of a buffer: each stands where the one before it ends
+laid-out : let texts = ascii "ab" ∷ [] ∷ ascii "c" ∷ [] in
+    (joined texts ≡ ascii "abc") × (laidOut texts 1 (ascii ".....") ≡ ascii ".abc.") × (laidEnd texts 1 (ascii ".....") ≡ 4)
+unfolding laidOut laidEnd writtenAt endOf
+laid-out = (refl, refl, refl)
+
+-- what does not fit is not written, and the next one stands in its place
+left-out : let texts = ascii "a" ∷ ascii "bcd" ∷ ascii "e" ∷ [] in (laidOut texts 0 (ascii "...") ≡ ascii "ae.") × (laidEnd texts 0 (ascii "...") ≡ 2)
+unfolding laidOut laidEnd writtenAt endOf
+left-out = (refl, refl)
+
+-- what a function that puts texts promises of the buffer and of the next place
+promised : (next : ℕ) → (after : List ℕ) → Laid (ascii "ab" ∷ []) 1 (ascii "....") after next → (after ≡ ascii ".ab.") × (next ≡ 3)
+unfolding laidOut laidEnd writtenAt endOf
+promised next after laid = (laid .buffer, laid .place)

@@ -58,6 +58,14 @@ unfoldable several : ℕ → List ℕ
 several zero = []
 several (suc n) = plain n ++ several n
 
+-- LOCATOR_SET of one locator
+abbrev set : List ℕ
+set = parameterBytes locatorSet (plain 1)
+
+-- ACK of one Update ID
+abbrev acked : List ℕ
+acked = parameterBytes ack (replicate 4 0)
+
 -- a Move with the bytes of a set
 abbrev moveOf : List ℕ → List ℕ
 moveOf set = packetOf (esp ++ (parameterBytes locatorSet set ++ id))
@@ -87,6 +95,8 @@ table =
     ∷ (packetOf (0 ∷ 66 ∷ 0 ∷ 5 ∷ 0 ∷ 0 ∷ 0 ∷ 0 ∷ []) gives Refused (refusal 3))
     ∷ (packetOf (id ++ esp) gives Refused (refusal 3))
     ∷ (packetOf (parameterBytes espInfo (replicate 8 0)) gives Refused (refusal 3))
+    ∷ (packetOf (parameterBytes espInfo (replicate 16 0)) gives Refused (refusal 3))
+    ∷ (packetOf (parameterBytes seq []) gives Refused (refusal 3))
     ∷ (packetOf (parameterBytes seq (replicate 8 0)) gives Refused (refusal 3))
     ∷ (packetOf (parameterBytes ack []) gives Refused (refusal 3))
     ∷ (packetOf (parameterBytes ack (replicate 6 0)) gives Refused (refusal 3))
@@ -95,13 +105,25 @@ table =
     -- refusal 4: an odd type not known, or 897
     ∷ (packetOf (parameterBytes 67 []) gives Refused (refusal 4))
     ∷ (packetOf (parameterBytes echoRequestSigned (replicate 8 0)) gives Refused (refusal 4))
-    -- refusal 5: no parameter, an even type alone, a second echo response, a Move's parameter in a Reply, a second ACK, a second set
+    -- refusal 5: no parameter, an even type alone
     ∷ (packetOf [] gives Refused (refusal 5))
     ∷ (packetOf (parameterBytes 66 []) gives Refused (refusal 5))
+    -- "A Reply has exactly one echo response, none of those three, at most one ACK.": a second echo response; ESP_INFO, a set or SEQ; a second ACK
     ∷ (packetOf (echo ++ echo) gives Refused (refusal 5))
+    ∷ (packetOf (esp ++ echo) gives Refused (refusal 5))
+    ∷ (packetOf (set ++ echo) gives Refused (refusal 5))
     ∷ (packetOf (id ++ echo) gives Refused (refusal 5))
-    ∷ (packetOf (parameterBytes ack (replicate 4 0) ++ (parameterBytes ack (replicate 4 0) ++ echo)) gives Refused (refusal 5))
-    ∷ (packetOf (esp ++ (parameterBytes locatorSet (plain 1) ++ (parameterBytes locatorSet (plain 2) ++ id))) gives Refused (refusal 5))
+    ∷ (packetOf (acked ++ (acked ++ echo)) gives Refused (refusal 5))
+    ∷ (packetOf acked gives Refused (refusal 5))
+    -- "A Move has exactly one each of ESP_INFO, LOCATOR_SET and SEQ, at most one echo response and one ACK.": each of the three missing, each twice
+    ∷ (packetOf (set ++ id) gives Refused (refusal 5))
+    ∷ (packetOf (esp ++ id) gives Refused (refusal 5))
+    ∷ (packetOf (esp ++ set) gives Refused (refusal 5))
+    ∷ (packetOf (esp ++ (esp ++ (set ++ id))) gives Refused (refusal 5))
+    ∷ (packetOf (esp ++ (set ++ (parameterBytes locatorSet (plain 2) ++ id))) gives Refused (refusal 5))
+    ∷ (packetOf (esp ++ (set ++ (id ++ id))) gives Refused (refusal 5))
+    ∷ (packetOf (esp ++ (set ++ (id ++ (acked ++ acked)))) gives Refused (refusal 5))
+    ∷ (packetOf (esp ++ (set ++ (id ++ (echo ++ echo)))) gives Refused (refusal 5))
     -- refusal 6, by each of its conditions
     ∷ (moveOf [] gives Refused (refusal 6))
     ∷ (moveOf (several 9) gives Refused (refusal 6))
@@ -118,9 +140,11 @@ table =
     ∷ (moveOf (several 8) gives says 8)
     ∷ (moveOf (ipv4 223 ++ ipv4 240) gives says 2)
     ∷ (packetOf (esp ++ (parameterBytes 66 [] ++ (parameterBytes locatorSet (plain 1) ++ (id ++ parameterBytes ack (replicate 8 0))))) gives says 1)
-    ∷ (packetOf (parameterBytes ack (replicate 4 0) ++ echo) gives Reply (Nonce 0x0102030405060708))
+    ∷ (packetOf (acked ++ echo) gives Reply (Nonce 0x0102030405060708))
     ∷ (packetOf echo gives Reply (Nonce 0x0102030405060708))
     ∷ (packetOf (parameterBytes echoResponseSigned (replicate 7 1)) gives Reply OtherLength)
+    ∷ (packetOf (parameterBytes echoResponseSigned (replicate 9 1)) gives Reply OtherLength)
+    ∷ (packetOf (parameterBytes echoResponseSigned []) gives Reply OtherLength)
     ∷ []
 
 -- every case agrees with the definitions

@@ -1,12 +1,14 @@
 -- Worked examples, computed from the definitions: the order of the pick.
 use Prim.Native.Nat.{ℕ}
 use mathlib.Core.Path.{_≡_, refl}
+use mathlib.Core.Bool.{true, false}
 use mathlib.Core.List.{List, [], _∷_, map}
+use lib.ListN.{replicate}
 use Rattle.slot.specs.declared.Status.{Status}
 use Rattle.slot.specs.declared.Status.the-variants.{Unverified, Active, Deprecated}
 use Rattle.slot.specs.declared.Slot.{Slot}
 use Rattle.slot.specs.Found.{emptySlot, slotOf}
-use Rattle.path.specs.Choices.{lowest, pathOf}
+use Rattle.path.specs.Choices.{trafficBoth, trafficData, carries, lowest, pathOf}
 use Rattle.path.specs.declared.Preference.the-variants.{NoPreference, Prefers}
 use Rattle.path.specs.declared.Path.the-variants.{ToActive, ToUnverified, NoCarrier}
 
@@ -31,12 +33,25 @@ unfolding pathOf lowest
 to-active = refl
 
 -- where none is, the same among UNVERIFIED carriers
-to-unverified : map (λ p. pathOf p fewer) (NoPreference ∷ Prefers 1 ∷ Prefers 2 ∷ Prefers 5 ∷ [])
-    ≡ ToUnverified 0 ∷ ToUnverified 0 ∷ ToUnverified 2 ∷ ToUnverified 0 ∷ []
+to-unverified : map (λ p. pathOf p fewer) (NoPreference ∷ Prefers 1 ∷ Prefers 2 ∷ Prefers 5 ∷ Prefers 8 ∷ [])
+    ≡ ToUnverified 0 ∷ ToUnverified 0 ∷ ToUnverified 2 ∷ ToUnverified 0 ∷ ToUnverified 0 ∷ []
 unfolding pathOf lowest
 to-unverified = refl
 
--- signalling alone and DEPRECATED carry nothing
-to-none : pathOf (Prefers 0) (holding 1 Active ∷ holding 1 checked ∷ holding 0 Deprecated ∷ []) ≡ NoCarrier
+-- an UNVERIFIED locator that is for signalling alone is passed over, also where it is preferred
+past-signalling : map (λ p. pathOf p (holding 1 checked ∷ holding 1 checked ∷ holding 2 checked ∷ [])) (NoPreference ∷ Prefers 0 ∷ Prefers 1 ∷ Prefers 2 ∷ [])
+    ≡ ToUnverified 2 ∷ ToUnverified 2 ∷ ToUnverified 2 ∷ ToUnverified 2 ∷ []
+unfolding pathOf lowest
+past-signalling = refl
+
+-- "A locator of traffic type 0 or 2 carries payload.": no other does, also one that no message can bring
+carriers : (map carries (0 ∷ 1 ∷ 2 ∷ 3 ∷ 4 ∷ 255 ∷ []) ≡ true ∷ false ∷ true ∷ false ∷ false ∷ false ∷ [])
+    × (trafficBoth ∷ trafficData ∷ [] ≡ 0 ∷ 2 ∷ [])
+carriers = (refl, refl)
+
+-- signalling alone, a traffic type of 3 and DEPRECATED carry nothing, and neither does an empty slot
+to-none : map (λ p. pathOf p (holding 1 Active ∷ holding 1 checked ∷ holding 0 Deprecated ∷ holding 3 Active ∷ holding 3 checked ∷ emptySlot ∷ []))
+    (NoPreference ∷ Prefers 0 ∷ Prefers 1 ∷ Prefers 2 ∷ Prefers 3 ∷ Prefers 4 ∷ Prefers 5 ∷ [])
+    ≡ replicate 7 NoCarrier
 unfolding pathOf lowest
 to-none = refl

@@ -2,6 +2,7 @@
 use Prim.Native.Nat.{ℕ}
 use mathlib.Core.Path.{_≡_, refl}
 use mathlib.Core.Bool.{Bool, true, false}
+use mathlib.Core.Option.{none, some}
 use mathlib.Core.List.{List, [], _∷_, map}
 use lib.ListN.{replicate}
 use Rattle.octets.specs.Records as records
@@ -16,8 +17,8 @@ use Rattle.path.specs.declared.Preference.the-variants.{NoPreference, Prefers}
 use Rattle.path.specs.Choices.{lowest}
 use Rattle.readdress.specs.declared.Placement.{Placement}
 use Rattle.readdress.specs.Echoes.{verifyAll, refusal8}
-use Rattle.readdress.specs.Steps.{rebind, entryFor, renewAll, retireAll, placeAll, markedSlot}
-use Rattle.readdress.specs.Checks.{checked, checkCount, twice, refusal10}
+use Rattle.readdress.specs.Steps.{rebind, entryFor, renewAll, retireAll, isFree, placeAll, markedSlot}
+use Rattle.readdress.specs.Checks.{nonceCount, awaits, checkCount, checked, checkFor, nonceTaken, twice, refusal10}
 use Rattle.readdress.specs.Moves.{settled, placed, newChecks, newSlots, newPreference}
 
 -- a slot that holds address n
@@ -40,19 +41,23 @@ before = three Active (waiting 9 2) Deprecated
 abbrev entry : (n : ℕ) → (preferred : Bool) → ListedLocator
 entry n preferred = record { address = record { high = 1; low = n }; lifetime = 60; spi = 0; traffic = 2; kind = 0; preferred = preferred }
 
--- refusal 8: no echo response, the nonce outstanding, another nonce, and an echo response of another length
-refusal-8 : map (λ e. refusal8 e before) (Absent ∷ Nonce 9 ∷ Nonce 10 ∷ OtherLength ∷ []) ≡ false ∷ false ∷ true ∷ true ∷ []
+-- refusal 8: no echo response, the nonce outstanding, another nonce, the Update ID of its check, and an echo response of another length
+refusal-8 : map (λ e. refusal8 e before) (Absent ∷ Nonce 9 ∷ Nonce 8 ∷ Nonce 10 ∷ Nonce 2 ∷ OtherLength ∷ [])
+    ≡ false ∷ false ∷ true ∷ true ∷ true ∷ true ∷ []
 unfolding records.some
 refusal-8 = refl
 
--- refusal 10: distinct; two equal, neighbours and far apart; one that is outstanding
-refusal-10 : map (λ ns. refusal10 ns before) ((5 ∷ 6 ∷ 7 ∷ []) ∷ (5 ∷ 5 ∷ 7 ∷ []) ∷ (5 ∷ 6 ∷ 5 ∷ []) ∷ (5 ∷ 6 ∷ 9 ∷ []) ∷ [])
-    ≡ false ∷ true ∷ true ∷ true ∷ []
+-- refusal 10: distinct, rising and falling, also one that is an Update ID; two equal, neighbours and far apart; one that is outstanding, the last
+-- and the first
+refusal-10 : map (λ ns. refusal10 ns before)
+    ((5 ∷ 6 ∷ 7 ∷ []) ∷ (7 ∷ 6 ∷ 2 ∷ []) ∷ (5 ∷ 5 ∷ 7 ∷ []) ∷ (5 ∷ 6 ∷ 5 ∷ []) ∷ (5 ∷ 7 ∷ 7 ∷ []) ∷ (5 ∷ 6 ∷ 9 ∷ []) ∷ (9 ∷ 5 ∷ 6 ∷ []) ∷ [])
+    ≡ false ∷ false ∷ true ∷ true ∷ true ∷ true ∷ true ∷ []
 unfolding records.some twice
 refusal-10 = refl
 
 -- step 1: the nonce turns its slot ACTIVE, and no other echo response turns any
-step-1 : (verifyAll (Nonce 9) before ≡ three Active Active Deprecated) × (map (λ e. verifyAll e before) (Absent ∷ Nonce 2 ∷ OtherLength ∷ []) ≡ replicate 3 before)
+step-1 : (verifyAll (Nonce 9) before ≡ three Active Active Deprecated)
+    × (map (λ e. verifyAll e before) (Absent ∷ Nonce 2 ∷ Nonce 8 ∷ Nonce 10 ∷ OtherLength ∷ []) ≡ replicate 5 before)
 unfolding verifyAll
 step-1 = (refl, refl)
 
@@ -85,8 +90,24 @@ step-5 : (after (Prefers 1) .slots
 unfolding placed settled verifyAll rebind renewAll retireAll entryFor placeAll lowest records.some
 step-5 = (refl, refl)
 
+-- which slots make room: an empty one and a DEPRECATED one that is not listed; which get a check: a DEPRECATED one that is listed. Of addresses 1
+-- to 3, and an empty slot
+rooms : (map (isFree (entry 1 false ∷ entry 2 false ∷ [])) before ≡ false ∷ false ∷ true ∷ true ∷ true ∷ [])
+    × (map (isFree (entry 3 false ∷ [])) before ≡ false ∷ false ∷ false ∷ true ∷ true ∷ [])
+    × (map (awaits (entry 1 false ∷ entry 2 false ∷ [])) before ≡ replicate 5 false)
+    × (map (awaits (entry 1 false ∷ entry 2 false ∷ entry 3 false ∷ [])) before ≡ false ∷ false ∷ true ∷ false ∷ false ∷ [])
+unfolding records.some
+rooms = (refl, refl, refl, refl)
+
+-- where no slot makes room, nothing changes
+full : placeAll 100 (entry 5 false ∷ []) (entry 5 false ∷ []) (record { slots = holding 1 0 130 Active ∷ []; preferred = Prefers 0 })
+    ≡ record { slots = holding 1 0 130 Active ∷ []; preferred = Prefers 0 }
+unfolding placeAll lowest records.some
+full = refl
+
 -- step 6: the locator with P, address 3, is in slot 2; without P the preference stays
-step-6 : (newPreference listed (after (Prefers 0)) ≡ Prefers 2) × (map (λ p. newPreference (entry 1 false ∷ []) (after p)) (NoPreference ∷ Prefers 0 ∷ []) ≡ NoPreference ∷ Prefers 0 ∷ [])
+step-6 : (newPreference listed (after (Prefers 0)) ≡ Prefers 2)
+    × (map (λ p. newPreference (entry 1 false ∷ []) (after p)) (NoPreference ∷ Prefers 0 ∷ []) ≡ NoPreference ∷ Prefers 0 ∷ [])
 unfolding placed settled verifyAll rebind renewAll retireAll entryFor placeAll markedSlot lowest records.some
 step-6 = (refl, refl)
 
@@ -96,3 +117,13 @@ checks : (newChecks listed (after NoPreference) ≡ 3)
     ≡ holding 1 2 160 Active ∷ holding 5 2 160 (waiting 11 3) ∷ holding 3 2 160 (waiting 12 4) ∷ holding 4 2 160 (waiting 13 5) ∷ emptySlot ∷ [])
 unfolding placed settled verifyAll rebind renewAll retireAll entryFor placeAll lowest checkCount checked records.some
 checks = (refl, refl)
+
+-- the nonce that each address takes: 1, which keeps its status, 5, 3 and 4 in slot order, and 2, which is no longer held. A nonce that is not
+-- offered counts 0
+taken : (nonceCount ≡ 8)
+    × (map (λ (n : ℕ). nonceTaken (record { high = 1; low = n }) listed (11 ∷ 12 ∷ 13 ∷ 14 ∷ []) (after NoPreference .slots)) (1 ∷ 5 ∷ 3 ∷ 4 ∷ 2 ∷ [])
+    ≡ none ∷ some 11 ∷ some 12 ∷ some 13 ∷ none ∷ [])
+    × (nonceTaken (record { high = 1; low = 5 }) listed [] (after NoPreference .slots) ≡ some 0)
+    × (checked (entry 3 false ∷ []) 7 [] 0 (holding 3 0 130 Deprecated ∷ []) ≡ holding 3 0 130 (waiting 0 7) ∷ [])
+unfolding placed settled verifyAll rebind renewAll retireAll entryFor placeAll lowest checkFor checked records.some
+taken = (refl, refl, refl, refl)

@@ -1,3 +1,4 @@
 pub mod Found
 pub mod Clashes
 pub mod Expiry
+pub mod Examples

@@ -1,7 +1,12 @@
 -- Worked examples, computed from the definitions.
+use Prim.Native.Nat.{ℕ}
 use mathlib.Core.Path.{_≡_, refl}
 use mathlib.Core.List.{[], _∷_, map}
-use Rattle.text.specs.Texts.{hexOf, digitsOf, decimalOf, endOf}
+use Rattle.text.specs.Texts.{glyphOf, hexOf, digitsOf, decimalOf, endOf}
+
+-- every digit: `0` to `9`, then `a` to `f`
+glyphs : map glyphOf (0 ∷ 1 ∷ 8 ∷ 9 ∷ 10 ∷ 11 ∷ 15 ∷ []) ≡ 48 ∷ 49 ∷ 56 ∷ 57 ∷ 97 ∷ 98 ∷ 102 ∷ []
+glyphs = refl
 
 -- 0, 7, 10, 8193 and 2^64 - 1 in decimal
 decimals : map decimalOf (0 ∷ 7 ∷ 10 ∷ 8193 ∷ 18446744073709551615 ∷ [])
@@ -19,7 +24,7 @@ hex : hexOf (0 ∷ 15 ∷ 169 ∷ 255 ∷ []) ≡ 48 ∷ 48 ∷ 48 ∷ 102 ∷ 9
 unfolding hexOf
 hex = refl
 
--- two bytes of text at 1 and at 2 of a buffer of three: the second does not fit, and the place stays
-ends : (endOf 1 (48 ∷ 49 ∷ []) (9 ∷ 9 ∷ 9 ∷ []) ≡ 3) × (endOf 2 (48 ∷ 49 ∷ []) (9 ∷ 9 ∷ 9 ∷ []) ≡ 2)
+-- two bytes of text at each place of a buffer of three: at 0 and 1 they fit, and from 2 on they do not and the place stays
+ends : map (λ (at : ℕ). endOf at (48 ∷ 49 ∷ []) (9 ∷ 9 ∷ 9 ∷ [])) (0 ∷ 1 ∷ 2 ∷ 3 ∷ 4 ∷ []) ≡ 2 ∷ 3 ∷ 2 ∷ 3 ∷ 4 ∷ []
 unfolding endOf
-ends = (refl, refl)
+ends = refl

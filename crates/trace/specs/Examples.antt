@@ -4,12 +4,13 @@ use mathlib.Core.Path.{_≡_, refl}
 use mathlib.Core.Bool.{true, false}
 use mathlib.Core.List.{List, [], _∷_, _++_, map}
 use lib.ListN.{replicate}
+use Rattle.octets.specs.Hex.{hex}
 use Rattle.octets.specs.Written.{bytesOf}
 use Rattle.sections.specs.Records.{recordAt}
 use Rattle.sections.specs.Written.{sectionBytes, recordBytes}
 use Rattle.trace.specs.declared.Call.{Call}
 use Rattle.trace.specs.declared.Call.the-variants.{Start, Message, Arrival, Send, Tick, Malformed}
-use Rattle.trace.specs.Calls.{isStart, isMessage, plainOf, callOf, noncesOf}
+use Rattle.trace.specs.Calls.{startNumber, messageNumber, arrivalNumber, sendNumber, tickNumber, numberSize, addressSize, nonceCount, isStart, roomLimit, isMessage, plainOf, callOf, noncesOf}
 
 -- numbers as they are written
 numbers : List ℕ → List ℕ
@@ -38,6 +39,30 @@ last32 = 0xffffffff
 abbrev last64 : ℕ
 last64 = 0xffffffffffffffff
 
+-- records in hex: a start at 100 with the outbound SPI 0x2001, the inbound SPI 0x1001 and a lifetime of 60; a message, marked, with a buffer of 384
+-- bytes and a packet of two; an arrival of 1,500
+in-hex : map read
+    ((hex "0028 0000000000000000 0000000000000064 0000000000002001 0000000000001001 000000000000003c"
+    ++ (hex "0010 20010db8 00000000 00000000 00000001" ++ hex "0000"))
+    ∷ (hex "0018 0000000000000001 0000000000000001 0000000000000180"
+    ++ (hex "0002 3b04"
+    ++ (hex "0040 0000000000000001 0000000000000002 0000000000000003 0000000000000004"
+    ++ hex "0000000000000005 0000000000000006 0000000000000007 0000000000000008")))
+    ∷ hex "0010 0000000000000002 00000000000005dc 0000 0000"
+    ∷ [])
+    ≡ Start (record {
+      time = 100;
+      outbound = 0x2001;
+      inbound = 0x1001;
+      lifetime = 60;
+      address = record { high = 0x20010db800000000; low = 1 };
+    })
+    ∷ Message (record { authentic = true; room = 384 })
+    ∷ Arrival 1500
+    ∷ []
+unfolding isStart isMessage plainOf callOf
+in-hex = refl
+
 -- each call, with the ends of its widths
 calls : map read
     (written (0 ∷ last64 ∷ last32 ∷ last32 ∷ last32 ∷ []) place []
@@ -63,25 +88,43 @@ calls : map read
 unfolding bytesOf sectionBytes recordBytes numbers isStart isMessage plainOf callOf
 calls = refl
 
--- an unknown call; no number; a wrong count of numbers; a number over 32 bits; an address of 15 bytes; a mark over 1; a buffer over 65,535; nonces of 56
--- bytes; bytes in a section that the call does not use
+-- an unknown call, above and among those of its form; no number; a wrong count of numbers; a number over 32 bits, for each of three; an address of
+-- 15 and of 17 bytes; a mark over 1; a buffer over 65,535; nonces of 56, 63 and 72 bytes; bytes in a section that the call does not use; the form
+-- of another call
 malformed : map read
     (written (5 ∷ 1 ∷ []) [] []
     ∷ written [] [] []
     ∷ written (2 ∷ []) [] []
     ∷ written (4 ∷ 1 ∷ 1 ∷ []) [] []
     ∷ written (0 ∷ 1 ∷ suc last32 ∷ 1 ∷ 1 ∷ []) place []
+    ∷ written (0 ∷ 1 ∷ 1 ∷ suc last32 ∷ 1 ∷ []) place []
+    ∷ written (0 ∷ 1 ∷ 1 ∷ 1 ∷ suc last32 ∷ []) place []
     ∷ written (0 ∷ 1 ∷ 1 ∷ 1 ∷ 1 ∷ []) (replicate 15 1) []
+    ∷ written (0 ∷ 1 ∷ 1 ∷ 1 ∷ 1 ∷ []) (replicate 17 1) []
     ∷ written (1 ∷ 2 ∷ 384 ∷ []) [] nonces
     ∷ written (1 ∷ 1 ∷ 65536 ∷ []) [] nonces
     ∷ written (1 ∷ 1 ∷ 384 ∷ []) [] (replicate 56 1)
+    ∷ written (1 ∷ 1 ∷ 384 ∷ []) [] (replicate 63 1)
+    ∷ written (1 ∷ 1 ∷ 384 ∷ []) [] (replicate 72 1)
     ∷ written (0 ∷ 1 ∷ 1 ∷ 1 ∷ 1 ∷ []) place (1 ∷ [])
     ∷ written (3 ∷ 1 ∷ []) (1 ∷ []) []
     ∷ written (3 ∷ 1 ∷ []) [] (1 ∷ [])
+    ∷ written (0 ∷ 1 ∷ []) [] []
+    ∷ written (1 ∷ 1 ∷ []) [] []
+    ∷ written (2 ∷ 1 ∷ 384 ∷ []) [] nonces
+    ∷ written (0 ∷ 1 ∷ 384 ∷ []) [] nonces
+    ∷ written (1 ∷ 1 ∷ 1 ∷ 1 ∷ 1 ∷ []) place []
+    ∷ written (0 ∷ 1 ∷ 1 ∷ 1 ∷ []) place []
+    ∷ written (0 ∷ 1 ∷ 1 ∷ 1 ∷ 1 ∷ 1 ∷ []) place []
     ∷ [])
-    ≡ replicate 12 Malformed
+    ≡ replicate 24 Malformed
 unfolding bytesOf sectionBytes recordBytes numbers isStart isMessage plainOf callOf
 malformed = refl
+
+-- the numbers of the calls and the sizes, and "eight nonces of 8 bytes"
+numbered : startNumber ∷ messageNumber ∷ arrivalNumber ∷ sendNumber ∷ tickNumber ∷ numberSize ∷ addressSize ∷ nonceCount ∷ roomLimit ∷ []
+    ≡ 0 ∷ 1 ∷ 2 ∷ 3 ∷ 4 ∷ 8 ∷ 16 ∷ 8 ∷ 65535 ∷ []
+numbered = refl
 
 -- the nonces, in order
 dealt : let bytes = written (1 ∷ 1 ∷ 384 ∷ []) (9 ∷ []) nonces in noncesOf bytes (recordAt bytes 0 .nonces) ≡ 1 ∷ 2 ∷ 3 ∷ 4 ∷ 5 ∷ 6 ∷ 7 ∷ 8 ∷ []

@@ -1,20 +1,17 @@
--- Worked examples, computed from the definitions: bytes in the middle of a buffer, at its end, and one byte past it.
+-- Worked examples, computed from the definitions.
+use Prim.Native.Nat.{ℕ}
 use mathlib.Core.Path.{_≡_, refl}
-use mathlib.Core.List.{[], _∷_}
-use Rattle.octets.specs.Written.{bytesOf}
+use mathlib.Core.List.{[], _∷_, map}
+use Rattle.octets.specs.Hex.{hex}
 use Rattle.writer.specs.Writes.{writtenAt}
 
--- in the middle: the bytes before and after it are as they were
-middle : writtenAt 1 (bytesOf 2 0x0102) (9 ∷ 9 ∷ 9 ∷ 9 ∷ []) ≡ 9 ∷ 1 ∷ 2 ∷ 9 ∷ []
-unfolding writtenAt bytesOf
-middle = refl
+-- two bytes at each place of a buffer of four: the bytes before and after them are as they were, and where they do not all fit nothing is written
+places : map (λ (at : ℕ). writtenAt at (hex "0102") (hex "a6a7a8a9")) (0 ∷ 1 ∷ 2 ∷ 3 ∷ 4 ∷ 5 ∷ [])
+    ≡ hex "0102a8a9" ∷ hex "a60102a9" ∷ hex "a6a70102" ∷ hex "a6a7a8a9" ∷ hex "a6a7a8a9" ∷ hex "a6a7a8a9" ∷ []
+unfolding writtenAt
+places = refl
 
--- up to the end exactly
-last : writtenAt 1 (bytesOf 4 0x01020304) (9 ∷ 9 ∷ 9 ∷ 9 ∷ 9 ∷ []) ≡ 9 ∷ 1 ∷ 2 ∷ 3 ∷ 4 ∷ []
-unfolding writtenAt bytesOf
-last = refl
-
--- one byte too far: nothing is written
-too-far : writtenAt 2 (bytesOf 4 0x01020304) (9 ∷ 9 ∷ 9 ∷ 9 ∷ 9 ∷ []) ≡ 9 ∷ 9 ∷ 9 ∷ 9 ∷ 9 ∷ []
-unfolding writtenAt bytesOf
-too-far = refl
+-- no bytes, at the end and past it
+none : (writtenAt 2 [] (hex "a6a7") ≡ hex "a6a7") × (writtenAt 3 [] (hex "a6a7") ≡ hex "a6a7")
+unfolding writtenAt
+none = (refl, refl)

@@ -1,0 +1,59 @@
+-- Document 01's table, written out.
+use Prim.Native.Nat.{ℕ}
+use mathlib.Core.Path.{_≡_, refl}
+use mathlib.Core.List.{List, [], _∷_, map}
+use Rattle.refusal.specs.declared.Refusal.{Refusal}
+use Rattle.refusal.specs.declared.Refusal.the-variants.{BadAssociation, ShortReplyBuffer, NotAuthentic, Malformed, UnknownParameter, UnknownMessage, BadLocatorSet, StaleUpdateId, UnmatchedEcho, WrongSpi, RepeatedNonce, UpdateIdsUsedUp, BadTime, BadSize, NoPath, NoCredit, BadStart}
+use Rattle.refusal.specs.Table.{numberOf, refusal}
+
+-- a number of the table, and the refusal that it is
+record Row : Type 0 where
+  number : ℕ
+  why : Refusal
+
+infixr 4 _is_
+abbrev _is_ : ℕ → Refusal → Row
+number is why = record { number = number; why = why }
+
+abbrev table : List Row
+table =
+    -- "the association handed in has time 2^40 or more, .."
+    (0 is BadAssociation)
+    -- "reply buffer below 384 bytes"
+    ∷ (1 is ShortReplyBuffer)
+    -- "not marked authentic"
+    ∷ (2 is NotAuthentic)
+    -- "under 40 bytes, header rule broken, .."
+    ∷ (3 is Malformed)
+    -- "odd type not known, or 897"
+    ∷ (4 is UnknownParameter)
+    -- "neither Move nor Reply"
+    ∷ (5 is UnknownMessage)
+    -- "set empty, over 8, not filled exactly, .."
+    ∷ (6 is BadLocatorSet)
+    -- "Update ID below the highest seen"
+    ∷ (7 is StaleUpdateId)
+    -- "echo response matches no outstanding nonce"
+    ∷ (8 is UnmatchedEcho)
+    -- "a Move's OLD SPI not the outbound SPI, .."
+    ∷ (9 is WrongSpi)
+    -- "the 8 offered nonces not distinct .."
+    ∷ (10 is RepeatedNonce)
+    -- "next own ID + new checks over 2^32"
+    ∷ (11 is UpdateIdsUsedUp)
+    -- "tick: time before the stored time, or 2^40 or more"
+    ∷ (12 is BadTime)
+    -- "arrival or send: size outside the limit"
+    ∷ (13 is BadSize)
+    -- "send: no carrier ACTIVE or UNVERIFIED"
+    ∷ (14 is NoPath)
+    -- "send: UNVERIFIED chosen, credit not higher"
+    ∷ (15 is NoCredit)
+    -- "start: time 2^40 or more, .."
+    ∷ (16 is BadStart)
+    ∷ []
+
+-- each refusal has its number, and each number its refusal
+numbered : (map (λ (row : Row). numberOf (row .why)) table ≡ map (λ (row : Row). row .number) table)
+    × (map (λ (row : Row). refusal (row .number)) table ≡ map (λ (row : Row). row .why) table)
+numbered = (refl, refl)
