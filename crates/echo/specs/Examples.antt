@@ -42,10 +42,12 @@ same : (map (sameBytes (1 ∷ 2 ∷ [])) ((1 ∷ 2 ∷ []) ∷ (1 ∷ 1 ∷ []) 
 unfolding sameBytes
 same = (refl, refl)
 
--- the first echo response is found at its place; the second is not, though it is equal
-places : (placeOf (packet 8 both) first ≡ found) × (placeOf (packet 8 both) second ≡ end 72)
+-- the only echo response and the first of two are found at their place; the second is not, though it is equal
+places : (placeOf (packet 6 (hex "03c10008 01020304 05060708 00000000")) first ≡ found)
+    × (placeOf (packet 8 both) first ≡ found)
+    × (placeOf (packet 8 both) second ≡ end 72)
 unfolding records some refusedType wrongLength falls occurs sameBytes echoes placeOf
-places = (refl, refl)
+places = (refl, refl, refl)
 
 -- "if the nonce is not eight bytes long": 0, 7, 9 and 16 bytes, which stand where the echo response does, also where it has that length
 lengths : (map (placeOf (packet 8 both)) ([] ∷ hex "01020304 050607" ∷ hex "01020304 05060708 00" ∷ hex "01020304 05060708 00000000 03c10008" ∷ [])

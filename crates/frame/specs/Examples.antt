@@ -96,19 +96,19 @@ listed = (refl, refl)
 counts : (again never 44 12 ≡ seen 1 44 12) × (again (seen 1 44 12) 60 4 ≡ seen 2 44 12) × (again (seen 2 44 12) 60 4 ≡ seen 2 44 12)
 counts = (refl, refl, refl)
 
--- what the walk answers: of each type once, of each more than once with an unknown type, and of no parameter
+-- a packet with these parameters, by its header length
+abbrev with : (h : ℕ) → List ℕ → List ℕ
+with h parameters = 0x3b ∷ h ∷ 0x10 ∷ 0x21 ∷ unjudged ++ parameters
+
+-- what the walk answers: of each type once, of each more than once with an unknown type, of no parameter, and of one of type 0, which falls below none
 walks : (walkOf one-each
     ≡ Complete (record { unknown = 0; esp = seen 1 44 12; set = seen 1 60 24; seq = seen 1 92 4; ack = seen 1 100 4; echo = seen 1 124 8 }))
     × (walkOf repeated
     ≡ Complete (record { unknown = 1; esp = seen 2 44 12; set = seen 2 76 0; seq = seen 2 92 4; ack = seen 2 108 4; echo = seen 2 140 1 }))
-    × (walkOf (hex "3b041021" ++ unjudged)
-    ≡ Complete (record { unknown = 0; esp = seen 0 0 0; set = seen 0 0 0; seq = seen 0 0 0; ack = seen 0 0 0; echo = seen 0 0 0 }))
+    × (map walkOf (with 4 [] ∷ with 5 (hex "00000000 00000000") ∷ [])
+    ≡ replicate 2 (Complete (record { unknown = 0; esp = seen 0 0 0; set = seen 0 0 0; seq = seen 0 0 0; ack = seen 0 0 0; echo = seen 0 0 0 })))
 unfolding walkOf records some refusedType wrongLength falls occurs
 walks = (refl, refl, refl)
-
--- a packet with these parameters, by its header length
-abbrev with : (h : ℕ) → List ℕ → List ℕ
-with h parameters = 0x3b ∷ h ∷ 0x10 ∷ 0x21 ∷ unjudged ++ parameters
 
 -- "header rule broken, parameter past the end, falling type, wrong L for 65, 385, 449": ESP_INFO of 8 and 16 bytes, SEQ of 0 and 8, ACK of 0 and 6
 refused-walks : map walkOf

@@ -11,7 +11,7 @@ use Rattle.octets.specs.Records.{records}
 use Rattle.address.specs.Rules.{legal}
 use Rattle.locator.specs.declared.ListedLocator.{ListedLocator}
 use Rattle.locator.specs.declared.LocatorStep.the-variants.{Listed, Refused}
-use Rattle.locator.specs.Locators.{places, illForm, illegalAt, listedAt, locatorStepAt}
+use Rattle.locator.specs.Locators.{trafficAt, kindAt, unitsAt, preferredAt, places, illForm, illegalAt, listedAt, locatorStepAt}
 
 -- a set of two. Type 0: both kinds of traffic, length 4, P, 60 seconds, 2001:db8::1. Type 1: signalling, length 5, every reserved bit and not P, 300
 -- seconds, SPI 0x1002, 2001:db8::2
@@ -45,10 +45,13 @@ read : (places two ≡ 0 ∷ 24 ∷ []) × (map (locatorStepAt two) (0 ∷ 24 �
 unfolding records illForm legal
 read = (refl, refl)
 
--- a place past the end, and a set without bytes
-none : (places [] ≡ []) × (locatorStepAt two 52 ≡ Refused (refusal 6))
+-- a place past the end, and a set without bytes; a byte that is not there counts 0
+none : (places [] ≡ [])
+    × (locatorStepAt two 52 ≡ Refused (refusal 6))
+    × (trafficAt [] 0 ∷ kindAt [] 0 ∷ unitsAt [] 0 ∷ [] ≡ 0 ∷ 0 ∷ 0 ∷ [])
+    × (preferredAt [] 0 ≡ false)
 unfolding records illForm legal
-none = (refl, refl)
+none = (refl, refl, refl, refl)
 
 -- a locator's first eight bytes, before an SPI and 2001:db8::1 or before the address alone
 abbrev of-type-0 : String → List ℕ

@@ -16,7 +16,7 @@ use Rattle.path.specs.declared.Preference.{Preference}
 use Rattle.path.specs.declared.Preference.the-variants.{NoPreference, Prefers}
 use Rattle.path.specs.Choices.{lowest}
 use Rattle.readdress.specs.declared.Placement.{Placement}
-use Rattle.readdress.specs.Echoes.{verifyAll, refusal8}
+use Rattle.readdress.specs.Echoes.{answers, verifyAll, refusal8}
 use Rattle.readdress.specs.Steps.{rebind, entryFor, renewAll, retireAll, isFree, placeAll, markedSlot}
 use Rattle.readdress.specs.Checks.{nonceCount, awaits, checkCount, checked, checkFor, nonceTaken, twice, refusal10}
 use Rattle.readdress.specs.Moves.{settled, placed, newChecks, newSlots, newPreference}
@@ -54,6 +54,11 @@ refusal-10 : map (λ ns. refusal10 ns before)
     ≡ false ∷ false ∷ true ∷ true ∷ true ∷ true ∷ true ∷ []
 unfolding records.some twice
 refusal-10 = refl
+
+-- an echo response answers a status that carries its nonce, and no other
+answered : (map (answers (Nonce 9)) (waiting 9 2 ∷ waiting 8 9 ∷ waiting 10 2 ∷ Active ∷ Deprecated ∷ []) ≡ true ∷ replicate 4 false)
+    × (map (λ e. answers e (waiting 9 2)) (Absent ∷ OtherLength ∷ []) ≡ false ∷ false ∷ [])
+answered = (refl, refl)
 
 -- step 1: the nonce turns its slot ACTIVE, and no other echo response turns any
 step-1 : (verifyAll (Nonce 9) before ≡ three Active Active Deprecated)

@@ -43,6 +43,7 @@ packets =
     ∷ packet (ack ++ seq)
     ∷ packet (seq ++ (longSeq ++ ack))
     ∷ packet (seq ++ tornAck)
+    ∷ packet (replicate 8 0)
     ∷ []
 
 abbrev answered : List (List Step)
@@ -57,6 +58,8 @@ answered =
     ∷ (four 449 44 ∷ Refused (refusal 3) ∷ [])
     ∷ (four 385 44 ∷ Refused (refusal 3) ∷ [])
     ∷ (four 385 44 ∷ Refused (refusal 3) ∷ [])
+    -- the first parameter falls below none, also where its type is 0
+    ∷ (Found (record { kind = 0; len = 0; body = 44; next = 48 }) ∷ End ∷ [])
     ∷ []
 
 -- whatever memory holds the packet
