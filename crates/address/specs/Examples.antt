@@ -5,7 +5,7 @@ use mathlib.Core.Bool.{Bool, true, false}
 use mathlib.Core.List.{List, [], _∷_, map}
 use lib.ListN.{length, replicate}
 use Prim.Native.String.{String}
-use Rattle.octets.specs.Hex.{hex}
+use Rattle.octets.specs.ExamplesHex.{hex}
 use Rattle.address.specs.Rules.{addressAt, sameAddress, legal}
 use Rattle.address.specs.declared.Address.{Address}
 

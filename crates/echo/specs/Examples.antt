@@ -5,7 +5,7 @@ use mathlib.Core.Bool.{true, false}
 use mathlib.Core.List.{List, [], _∷_, _++_, map}
 use lib.ListN.{replicate}
 use denote.Ref.{RefT, ptr, now, at-last}
-use Rattle.octets.specs.Hex.{hex}
+use Rattle.octets.specs.ExamplesHex.{hex}
 use Rattle.octets.specs.Records.{records, some}
 use Rattle.parameter.specs.Types.{refusedType, wrongLength}
 use Rattle.frame.specs.Parameters.{falls}

@@ -7,7 +7,7 @@ use mathlib.Core.Option.{Option, none, some}
 use mathlib.Core.List.{List, [], _∷_, _++_, map}
 use lib.ListN.{replicate}
 use Rattle.refusal.specs.Table.{refusal}
-use Rattle.octets.specs.Hex.{hex}
+use Rattle.octets.specs.ExamplesHex.{hex}
 use Rattle.address.specs.declared.Address.{Address}
 use Rattle.slot.specs.declared.Status.{Status}
 use Rattle.slot.specs.declared.Status.the-variants.{Unverified, Active, Deprecated}

@@ -4,7 +4,7 @@ use mathlib.Core.Path.{_≡_, refl}
 use mathlib.Core.Bool.{true, false}
 use mathlib.Core.List.{List, [], _∷_, map}
 use lib.Dec.{eqb}
-use Rattle.octets.specs.Hex.{hex}
+use Rattle.octets.specs.ExamplesHex.{hex}
 use Rattle.octets.specs.Numbers.{bigEndian, numberAt}
 use Rattle.octets.specs.Records.{records, some}
 use Rattle.octets.specs.Written.{bytesOf}

@@ -1,5 +1,5 @@
 pub mod Numbers
 pub mod Records
 pub mod Written
-pub mod Hex
+pub mod ExamplesHex
 pub mod Examples

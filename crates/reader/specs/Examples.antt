@@ -67,6 +67,16 @@ through : (r : RefT (List ℕ)) → map (λ (s : List ℕ). answers 56 (fresh (a
 unfolding answers advancedOf wrongLength
 through r = refl
 
+-- stepped once, and at most so many times more
+at-most : (r : RefT (List ℕ)) → map (λ (steps : ℕ). answers steps (fresh (at-last r (packet (seq ++ ack))))) (0 ∷ 1 ∷ 2 ∷ 3 ∷ [])
+    ≡ (four 385 44 ∷ [])
+    ∷ (four 385 44 ∷ four 449 52 ∷ [])
+    ∷ (four 385 44 ∷ four 449 52 ∷ End ∷ [])
+    ∷ (four 385 44 ∷ four 449 52 ∷ End ∷ [])
+    ∷ []
+unfolding answers advancedOf wrongLength
+at-most r = refl
+
 -- and what the packet's parameters call for is the same
 called-for : map answersOf packets ≡ answered
 unfolding answersTo wellFormed records some falls wrongLength

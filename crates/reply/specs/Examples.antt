@@ -3,7 +3,7 @@ use Prim.Native.Nat.{ℕ}
 use mathlib.Core.Path.{_≡_, refl}
 use mathlib.Core.List.{[], _∷_, _++_, map}
 use lib.ListN.{length, replicate}
-use Rattle.octets.specs.Hex.{hex}
+use Rattle.octets.specs.ExamplesHex.{hex}
 use Rattle.octets.specs.Written.{bytesOf}
 use Rattle.parameter.specs.Written.{parameterBytes}
 use Rattle.reply.specs.Replies.{checkSize, ackSize, ackBytes, checksBytes, moveBytes, moveSize, fitted, overwritten}

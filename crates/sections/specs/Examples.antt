@@ -3,7 +3,7 @@ use Prim.Native.Nat.{ℕ, _+_}
 use mathlib.Core.Path.{_≡_, refl}
 use mathlib.Core.List.{List, [], _∷_, _++_, map}
 use denote.Ref.{RefT, ptr, now, at-last}
-use Rattle.octets.specs.Hex.{hex}
+use Rattle.octets.specs.ExamplesHex.{hex}
 use Rattle.octets.specs.Written.{bytesOf}
 use Rattle.sections.specs.declared.Section.{Section}
 use Rattle.sections.specs.declared.SectionStep.the-variants.{Present, Cut}

@@ -4,7 +4,7 @@ use mathlib.Core.Path.{_≡_, refl}
 use mathlib.Core.Bool.{true, false}
 use mathlib.Core.List.{List, [], _∷_, _++_, map}
 use lib.ListN.{replicate}
-use Rattle.octets.specs.Hex.{hex}
+use Rattle.octets.specs.ExamplesHex.{hex}
 use Rattle.octets.specs.Written.{bytesOf}
 use Rattle.sections.specs.Records.{recordAt}
 use Rattle.sections.specs.Written.{sectionBytes, recordBytes}

@@ -7,7 +7,7 @@ use mathlib.Core.List.{List, [], _∷_, _++_, map}
 use lib.ListN.{replicate}
 use Rattle.octets.specs.Records as records
 use Rattle.octets.specs.Written.{bytesOf}
-use Rattle.octets.specs.Hex.{hex}
+use Rattle.octets.specs.ExamplesHex.{hex}
 use Rattle.parameter.specs.Written.{parameterBytes}
 use Rattle.refusal.specs.declared.Refusal.the-variants.{ShortReplyBuffer, StaleUpdateId, UnmatchedEcho, WrongSpi, RepeatedNonce, UpdateIdsUsedUp}
 use Rattle.parameter.specs.Types.{refusedType, wrongLength}
@@ -55,11 +55,11 @@ edges = (refl, refl, refl, refl, refl, refl, refl, refl)
 abbrev entry : (n kind spi : ℕ) → ListedLocator
 entry n kind spi = record { address = record { high = 1; low = n }; lifetime = 60; spi = spi; traffic = 0; kind = kind; preferred = false }
 
--- refusal 9, with the outbound SPI 7: OLD SPI, NEW SPI 0, and the SPI of a type 1 locator; that of a type 0 locator is not judged
+-- refusal 9, with the outbound SPI 7: OLD SPI, NEW SPI 0, and the SPI of a type 1 locator; that of another type is not judged
 refusal-9 : (map (λ old. refusal9 7 old 8 []) (7 ∷ 6 ∷ 8 ∷ 0 ∷ []) ≡ false ∷ true ∷ true ∷ true ∷ [])
     × (map (λ new. refusal9 7 7 new []) (7 ∷ 6 ∷ 8 ∷ 1 ∷ 0 ∷ []) ≡ false ∷ false ∷ false ∷ false ∷ true ∷ [])
-    × (map (λ e. refusal9 7 7 8 (entry 1 0 0 ∷ e ∷ [])) (entry 2 1 8 ∷ entry 2 1 7 ∷ entry 2 1 9 ∷ entry 2 0 7 ∷ entry 2 0 9 ∷ [])
-    ≡ false ∷ true ∷ true ∷ false ∷ false ∷ [])
+    × (map (λ e. refusal9 7 7 8 (entry 1 0 0 ∷ e ∷ [])) (entry 2 1 8 ∷ entry 2 1 7 ∷ entry 2 1 9 ∷ entry 2 0 7 ∷ entry 2 0 9 ∷ entry 2 2 7 ∷ [])
+    ≡ false ∷ true ∷ true ∷ false ∷ false ∷ false ∷ [])
 unfolding records.some
 refusal-9 = (refl, refl, refl)
 

@@ -2,7 +2,7 @@
 use Prim.Native.Nat.{ℕ}
 use mathlib.Core.Path.{_≡_, refl}
 use mathlib.Core.List.{[], _∷_, map}
-use Rattle.octets.specs.Hex.{hex}
+use Rattle.octets.specs.ExamplesHex.{hex}
 use Rattle.writer.specs.Writes.{writtenAt}
 
 -- two bytes at each place of a buffer of four: the bytes before and after them are as they were, and where they do not all fit nothing is written

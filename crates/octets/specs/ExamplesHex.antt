@@ -1,4 +1,4 @@
--- Bytes by their hex digits, as the papers print them. Examples alone use it, for packets that are copied and not computed.
+-- Bytes by their hex digits, as the papers print them: for packets in examples that are copied and not computed.
 use Prim.Native.Nat.{ℕ, _+_, _-_, _*_}
 use Prim.Native.Char.{code}
 use Prim.Native.String.{String, [] as none, _∷_ as _before_}
