@@ -1,5 +1,4 @@
 -- Worked examples, computed from the definitions: the edges of each rule.
-use Prim.Native.Nat.{ℕ}
 use mathlib.Core.Path.{_≡_, refl}
 use mathlib.Core.Bool.{true, false}
 use mathlib.Core.List.{[], _∷_, map}

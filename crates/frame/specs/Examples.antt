@@ -3,7 +3,7 @@ use Prim.Native.Nat.{ℕ}
 use mathlib.Core.Path.{_≡_, refl}
 use mathlib.Core.Bool.{true, false}
 use mathlib.Core.List.{List, [], _∷_, _++_, map}
-use lib.ListN.{length, replicate}
+use lib.ListN.{replicate}
 use Rattle.refusal.specs.Table.{refusal}
 use Rattle.octets.specs.ExamplesHex.{hex}
 use Rattle.octets.specs.Records.{records, some}
@@ -13,7 +13,7 @@ use Rattle.frame.specs.declared.Occurrence.{Occurrence}
 use Rattle.frame.specs.declared.Walked.the-variants.{Rejected, Complete}
 use Rattle.frame.specs.Header.{headerSize, headerHolds}
 use Rattle.frame.specs.Parameters.{parameters, falls, illFormed, illAfter}
-use Rattle.frame.specs.Survey.{never, again, occurs, refusal3, refusal4, walkOf}
+use Rattle.frame.specs.Survey.{never, again, occurs, refusal4, walkOf}
 
 -- ---- the header
 -- the checksum, the controls and the HITs: 36 bytes that are not judged

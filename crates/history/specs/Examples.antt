@@ -20,7 +20,7 @@ use Rattle.association.specs.declared.Association.{Association}
 use Rattle.association.specs.declared.Outcome.the-variants.{Accepted, Refused}
 use Rattle.payload.specs.declared.SendOutcome.the-variants.{Granted, Denied}
 use Rattle.update.specs.declared.MessageOutcome.the-variants.{Moved, Replied, Repeated, Declined}
-use Rattle.history.specs.Calls.{Call, message, arrival, send, tick, Answered, refusedBy, done, repeated, grantedTo, ofOutcome, ofSend, ofMessage, answers, returned, isAccepted, isRepeat, Step, stepOf, history, after}
+use Rattle.history.specs.Calls.{Call, message, arrival, send, tick, refusedBy, done, repeated, grantedTo, ofOutcome, ofSend, ofMessage, answers, returned, isAccepted, isRepeat, stepOf, history, after}
 use Rattle.history.specs.Ledger.{Entry, arrived, granted, ageing, entriesOf, lastOf, ledger, held, creditHeld, arrivedIn, grantedIn, ageingsIn, NoArrival}
 use Rattle.history.specs.Words.{finds, leaves, isAuthentic, echoed, lists, retires, taken, outstanding}
 use Rattle.history.specs.Demand.{ledgerOf, next}
@@ -88,11 +88,11 @@ first = brings (moveTwo "00002001" "00000000") 0x51
 abbrev pub second : Call
 second = brings (moveOne "00002001" "00000001") 0x61
 
-abbrev pub third : Call
+abbrev third : Call
 third = brings (moveTwo "00002001" "00000002") 0x71
 
 -- a Move of both addresses with a new SPI: address 1 takes nonce 0x61 and address 2 takes 0x62
-abbrev pub rebinding : Call
+abbrev rebinding : Call
 rebinding = brings (moveTwo "00002002" "00000001") 0x61
 
 -- the answer to a check
@@ -108,7 +108,7 @@ abbrev until : (expiry n : ℕ) → Status → Slot
 until expiry n s = slotOf (record { address = address n; traffic = 0; expiry = expiry; status = s })
 
 -- UNVERIFIED, with this check
-abbrev pub waiting : (nonce id : ℕ) → Status
+abbrev waiting : (nonce id : ℕ) → Status
 waiting nonce id = Unverified (record { nonce = nonce; id = id })
 
 -- at 102, where the last ageing was at 100

@@ -1,8 +1,8 @@
 -- What demand 3's claim says of single runs: each part of it, used on a run where it says something, and each condition of a call that verifies an
 -- address, where it is the one that fails.
-use Prim.Native.Nat.{ℕ, _≤_}
+use Prim.Native.Nat.{_≤_}
 use mathlib.Core.Path.{_≡_, refl}
-use mathlib.Core.Bool.{Bool, true, false}
+use mathlib.Core.Bool.{true, false}
 use mathlib.Core.Option.{none, some}
 use mathlib.Core.Logic.{_≢_, inl, inr}
 use mathlib.Core.List.{List, [], _∷_}
@@ -14,7 +14,7 @@ use Rattle.history.specs.Calls.{Call, arrival, send, tick, Answered, ref
 use Rattle.history.specs.Ledger.{arrived, granted, ageing}
 use Rattle.history.specs.Words.{leaves}
 use Rattle.history.specs.Demand.{Verifies, Demand3, next}
-use Rattle.history.specs.Examples.{echoingOne, echoingTwo, moveTwo, reply, marked, brings, first, second, answering, address, waiting, begun}
+use Rattle.history.specs.Examples.{echoingOne, echoingTwo, moveTwo, reply, marked, brings, first, second, answering, address, begun}
 use Rattle.history.specs.ExamplesUnfolded.{sequences}
 
 -- ---- a call that verifies

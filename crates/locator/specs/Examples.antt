@@ -11,7 +11,7 @@ use Rattle.octets.specs.Records.{records}
 use Rattle.address.specs.Rules.{legal}
 use Rattle.locator.specs.declared.ListedLocator.{ListedLocator}
 use Rattle.locator.specs.declared.LocatorStep.the-variants.{Listed, Refused}
-use Rattle.locator.specs.Locators.{trafficAt, kindAt, unitsAt, preferredAt, places, illForm, illegalAt, listedAt, locatorStepAt}
+use Rattle.locator.specs.Locators.{trafficAt, kindAt, unitsAt, preferredAt, places, illForm, illegalAt, locatorStepAt}
 
 -- a set of two. Type 0: both kinds of traffic, length 4, P, 60 seconds, 2001:db8::1. Type 1: signalling, length 5, every reserved bit and not P, 300
 -- seconds, SPI 0x1002, 2001:db8::2

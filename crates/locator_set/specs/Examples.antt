@@ -1,16 +1,15 @@
 -- Worked examples, computed from the definitions: each condition of refusal 6, and what an accepted set answers.
-use Prim.Native.Nat.{ℕ, _+_}
+use Prim.Native.Nat.{ℕ}
 use mathlib.Core.Path.{_≡_, refl}
 use mathlib.Core.Bool.{Bool, true, false}
 use mathlib.Core.List.{List, [], _∷_, _++_, map}
-use lib.ListN.{length, replicate}
+use lib.ListN.{replicate}
 use Rattle.refusal.specs.Table.{refusal}
 use Rattle.octets.specs.ExamplesHex.{hex}
 use Rattle.octets.specs.Records.{records, some}
 use Rattle.address.specs.Rules.{legal}
 use Rattle.locator.specs.Locators.{illForm}
 use Rattle.locator.specs.declared.ListedLocator.{ListedLocator}
-use Rattle.locator_set.specs.declared.LocatorSet.{LocatorSet}
 use Rattle.locator_set.specs.declared.SetVerdict.the-variants.{RefusedSet, Holds}
 use Rattle.locator_set.specs.Sets.{twice, marks, refusal6, blank, blanks, setOf}
 
