@@ -38,9 +38,9 @@ short-headers : (headerHolds (hex "3b031021" ++ replicate 28 0) ≡ false) × (h
 short-headers = (refl, refl)
 
 -- ---- types that fall
--- parameters of these types, 8 bytes each from 40 on
-abbrev typed : (kind at : ℕ) → Parameter
-typed kind at = record { kind = kind; len = 4; body = at; next = at }
+-- a parameter of this type, with L = 4, that ends here
+abbrev typed : (kind end : ℕ) → Parameter
+typed kind end = record { kind = kind; len = 4; body = 44; next = end }
 
 -- "Types never fall along the packet.": of no parameter, of one after a lower, an equal and a higher type, and of the second and third
 falling : (map (λ (last : ℕ). falls last []) (0 ∷ 1000 ∷ []) ≡ false ∷ false ∷ [])

@@ -34,7 +34,7 @@ all [] = []
 all (n ∷ ns) = locator n 0 ++ all ns
 
 -- what stands where no locator does
-abbrev nothing : ListedLocator
+abbrev pub nothing : ListedLocator
 nothing = record {
   address = record { high = 0; low = 0 };
   lifetime = 0;

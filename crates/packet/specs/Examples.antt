@@ -108,7 +108,8 @@ table =
     -- refusal 5: no parameter, an even type alone
     ∷ (packetOf [] gives Refused (refusal 5))
     ∷ (packetOf (parameterBytes 66 []) gives Refused (refusal 5))
-    -- "A Reply has exactly one echo response, none of those three, at most one ACK.": a second echo response; ESP_INFO, a set or SEQ; a second ACK
+    -- "A Reply has exactly one echo response, none of those three, at most one ACK.": a second echo response; ESP_INFO, a set or SEQ; a second ACK;
+    -- no echo response
     ∷ (packetOf (echo ++ echo) gives Refused (refusal 5))
     ∷ (packetOf (esp ++ echo) gives Refused (refusal 5))
     ∷ (packetOf (set ++ echo) gives Refused (refusal 5))

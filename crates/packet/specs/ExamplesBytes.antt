@@ -1,5 +1,4 @@
--- Packets in hex, copied by hand from the layouts of RFC 7401, 7402 and 8046 and not made by the definitions, so that the numbers of the papers are
--- held by something else than themselves.
+-- Packets in hex, copied by hand from the layouts of RFC 7401, 7402 and 8046 and not made by the definitions: a number that is wrong in these fails here.
 use Prim.Native.Nat.{ℕ}
 use Prim.Native.String.{String}
 use mathlib.Core.Path.{_≡_, refl}
@@ -14,8 +13,8 @@ use Rattle.parameter.specs.Types.{refusedType, wrongLength}
 use Rattle.frame.specs.Parameters.{falls}
 use Rattle.frame.specs.Survey.{occurs}
 use Rattle.locator.specs.Locators.{illForm}
-use Rattle.locator.specs.declared.ListedLocator.{ListedLocator}
 use Rattle.locator_set.specs.Sets.{twice, marks}
+use Rattle.locator_set.specs.Examples.{nothing}
 use Rattle.packet.specs.declared.EchoResponse.the-variants.{Nonce}
 use Rattle.packet.specs.declared.Message.the-variants.{Refused, Move, Reply}
 use Rattle.packet.specs.Kinds.{isMove, isReply}
@@ -58,17 +57,6 @@ mac = hex "f0410004 01020304"
 
 abbrev signature : List ℕ
 signature = hex "f1010005 05010203 04ffffff ffffffff"
-
--- a locator that is not listed
-abbrev nothing : ListedLocator
-nothing = record {
-  address = record { high = 0; low = 0 };
-  lifetime = 0;
-  spi = 0;
-  traffic = 0;
-  kind = 0;
-  preferred = false;
-}
 
 -- a whole Move, with each parameter that it may have
 whole-move : readingOf (header "3b171021" ++ (espInfo ++ (locatorSet ++ (seq ++ (ack ++ (hostId ++ (echoResponse ++ (mac ++ signature))))))))

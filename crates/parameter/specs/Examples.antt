@@ -42,7 +42,7 @@ unfolding wrongLength
 wrong-lengths = (refl, refl, refl, refl, refl, refl)
 
 -- ---- sizes
--- "L of 24, 28, 56, 224 take 32, 32, 64, 232 bytes.", and each L from 0 to 13 takes the next multiple of 8 that holds it after type and length
+-- "L of 24, 28, 56, 224 take 32, 32, 64, 232 bytes."; lesser ones take the next multiple of 8 that holds them after type and length
 sizes : (map takes (24 ∷ 28 ∷ 56 ∷ 224 ∷ []) ≡ 32 ∷ 32 ∷ 64 ∷ 232 ∷ [])
     × (map takes (0 ∷ 1 ∷ 3 ∷ 4 ∷ 5 ∷ 8 ∷ 11 ∷ 12 ∷ 13 ∷ []) ≡ 8 ∷ 8 ∷ 8 ∷ 8 ∷ 16 ∷ 16 ∷ 16 ∷ 16 ∷ 24 ∷ [])
 sizes = (refl, refl)

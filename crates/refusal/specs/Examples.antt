@@ -7,15 +7,15 @@ use Rattle.refusal.specs.declared.Refusal.the-variants.{BadAssociation, 
 use Rattle.refusal.specs.Table.{numberOf, refusal}
 
 -- a number of the table, and the refusal that it is
-record Row : Type 0 where
+record Entry : Type 0 where
   number : ℕ
   why : Refusal
 
 infixr 4 _is_
-abbrev _is_ : ℕ → Refusal → Row
+abbrev _is_ : ℕ → Refusal → Entry
 number is why = record { number = number; why = why }
 
-abbrev table : List Row
+abbrev table : List Entry
 table =
     -- "the association handed in has time 2^40 or more, .."
     (0 is BadAssociation)
@@ -54,6 +54,6 @@ table =
     ∷ []
 
 -- each refusal has its number, and each number its refusal
-numbered : (map (λ (row : Row). numberOf (row .why)) table ≡ map (λ (row : Row). row .number) table)
-    × (map (λ (row : Row). refusal (row .number)) table ≡ map (λ (row : Row). row .why) table)
+numbered : (map (λ (entry : Entry). numberOf (entry .why)) table ≡ map (λ (entry : Entry). entry .number) table)
+    × (map (λ (entry : Entry). refusal (entry .number)) table ≡ map (λ (entry : Entry). entry .why) table)
 numbered = (refl, refl)

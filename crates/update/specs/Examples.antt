@@ -1,5 +1,5 @@
--- Worked examples, computed from the definitions: refusals 1, 7, 9 and 11 at their edges, what is Repeated, the order of a Move's refusals, and
--- whole answers to messages that are read already. `cases` has messages by their bytes.
+-- Worked examples, computed from the definitions: refusals 1, 7, 9 and 11 at their edges, what is Repeated, the order of a Move's refusals,
+-- whole answers to messages that are read already, and to a Reply by its bytes. `cases` has more of these.
 use Prim.Native.Nat.{ℕ, _^_}
 use mathlib.Core.Path.{_≡_, refl}
 use mathlib.Core.Bool.{true, false}
@@ -165,7 +165,7 @@ malformed = 0x3b ∷ 7 ∷ 0x10 ∷ 0x21 ∷ replicate 36 0 ++ hex "03c10008 000
 abbrev bad : Association
 bad = found 4294967297
 
--- "A message is tried in rows 0 to 11": 0, 1, 2 and 3, where each also earns what comes later, and none
+-- the first refusals in order: 0, 1, 2 and 3, where each also earns what comes later, and none
 first-four : (handled bad malformed false fresh 383 ≡ refused 0 bad)
     × (handled (found 3) malformed false fresh 383 ≡ refused 1 (found 3))
     × (handled (found 3) malformed false fresh 384 ≡ refused 2 (found 3))
