@@ -64,7 +64,7 @@ others =
     ∷ address "20010db8 00000000 00000000 00000000"
     ∷ []
 
--- far from every edge: 2001:db8::1, fe80::1, ::1, 10.0.0.1, 127.0.0.1, 192.168.0.1
+-- addresses of no illegal range that a reader may ask about: 2001:db8::1, fe80::1, ::1, 10.0.0.1, 127.0.0.1, 192.168.0.1
 abbrev common : List Address
 common =
     address "20010db8 00000000 00000000 00000001"

@@ -80,8 +80,8 @@ marked authentic packet nonce = message packet authentic (map (λ (k : ℕ). non
 abbrev pub brings : (packet : List ℕ) → (nonce : ℕ) → Call
 brings packet nonce = marked true packet nonce
 
--- the first Move lists addresses 1 and 2, and address 2 takes nonce 0x51; the second lists address 1 alone; the third lists both, and address 2 takes
--- nonce 0x71
+-- the first Move lists addresses 1 and 2, and address 2 takes nonce 0x51; the second lists address 1 alone; the third lists both, and
+-- address 2 takes nonce 0x71 where the second retired it
 abbrev pub first : Call
 first = brings (moveTwo "00002001" "00000000") 0x51
 

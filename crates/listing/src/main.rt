@@ -3,6 +3,7 @@
 // with the part of the packet that `echo::echo_part` hands back. The file `stdout` was written from document 01, and the check compares the two.
 // Depends on reader, echo and the crates of their types, on writer to build packets, and on the kit's io and libc to print.
 use libc::STDOUT_FILENO;
+use parameter::NONCE_SIZE;
 use parameter::Parameter;
 use parameter::Step;
 use refusal::Refusal;
@@ -101,7 +102,7 @@ fn put_echo(packet: &mut [u8], header: u32, head: u32) {
 
 // The part of a packet that echoes that nonce. The nonce is lent for this call alone, and the part for as long as the packet is.
 fn part_of<'p>(packet: &'p [u8]) -> &'p [u8] {
-    let mut nonce = [0u8; 8];
+    let mut nonce = [0u8; NONCE_SIZE];
     put_u64(&mut nonce, 0, NONCE);
     echo::echo_part(packet, &nonce)
 }

@@ -19,7 +19,7 @@ bytes = hex "0002 0708" ++ (hex "0000" ++ (hex "0001 09" ++ hex "0001 05"))
 abbrev from : (start end : ℕ) → Section
 from start end = record { start = start; end = end }
 
--- as it is written: "each after its 16-bit count of bytes"
+-- as it is written: each section after its count, a number of two bytes
 written : (recordBytes (7 ∷ 8 ∷ []) [] (9 ∷ []) ++ (0 ∷ 1 ∷ 5 ∷ []) ≡ bytes) × (countSize ≡ 2)
 unfolding bytesOf sectionBytes recordBytes
 written = (refl, refl)

@@ -4,7 +4,7 @@ use mathlib.Core.Path.{_≡_, refl}
 use mathlib.Core.List.{[], _∷_, map}
 use Rattle.text.specs.Texts.{glyphOf, hexOf, digitsOf, decimalOf, endOf}
 
--- every digit: `0` to `9`, then `a` to `f`
+-- both ends of `0` to `9` and of `a` to `f`
 glyphs : map glyphOf (0 ∷ 1 ∷ 8 ∷ 9 ∷ 10 ∷ 11 ∷ 15 ∷ []) ≡ 48 ∷ 49 ∷ 56 ∷ 57 ∷ 97 ∷ 98 ∷ 102 ∷ []
 glyphs = refl
 
