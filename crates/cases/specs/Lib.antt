@@ -1,6 +1,5 @@
 pub mod Packets
 pub mod Held
-pub mod Unfolded
 pub mod Tables
 pub mod Starred
 pub mod Refusals

@@ -1,8 +1,8 @@
 -- The bytes of packets, by the definitions that write parameters.
 use Prim.Native.Nat.{ℕ, _+_, _-_, _/_}
-use mathlib.Core.List.{List, [], _∷_, _++_}
+use mathlib.Core.List.{List, _∷_, _++_}
 use lib.ListN.{length, replicate}
-use Rattle.octets.specs.Written.{bytesOf}
+use Rattle.octets.specs.Written.{bytesOf, joined}
 use Rattle.address.specs.declared.Address.{Address}
 use Rattle.parameter.specs.Types.{espInfo, locatorSet, seq, echoResponseSigned, nonceSize}
 use Rattle.parameter.specs.Written.{parameterBytes}
@@ -39,11 +39,6 @@ locator traffic p lifetime n = traffic ∷ 0 ∷ 4 ∷ p ∷ bytesOf 4 lifetime 
 -- a locator of type 1, with this SPI, for both kinds of traffic and 60 seconds, without P, of address n
 abbrev pub bound : (spi n : ℕ) → List ℕ
 bound spi n = 0 ∷ 1 ∷ 5 ∷ 0 ∷ bytesOf 4 60 ++ (bytesOf 4 spi ++ addressBytes n)
-
--- the locators' bytes, one after another
-unfoldable pub joined : List (List ℕ) → List ℕ
-joined [] = []
-joined (l ∷ ls) = l ++ joined ls
 
 -- LOCATOR_SET of these locators
 abbrev pub setOf : (locators : List (List ℕ)) → List ℕ

@@ -16,13 +16,13 @@ use Rattle.association.specs.Form.{refused}
 use Rattle.association.specs.Start.{noAssociation, startOf}
 use Rattle.payload.specs.Calls.{arrivalOf, denied, sendOf}
 use Rattle.clock.specs.Ticks.{tickOf}
-use Rattle.reply.specs.Replies.{checksBytes}
+use Rattle.reply_form.specs.Replies.{checksBytes}
 use Rattle.update.specs.declared.MessageOutcome.the-variants.{Moved, Replied, Repeated}
 use Rattle.update.specs.Messages.{messageOf}
+use Rattle.history.specs.ExamplesUnfolded.{calls}
 use Rattle.cases.specs.Packets.{packetOf, esp, idOf, echo, address, locator, bound, setOf, keymatIndex, moveParts, moveOf, echoingMove, replyOf}
 use Rattle.cases.specs.Held.{holding, checked}
 use Rattle.cases.specs.Tables.{Seen, status, prefers, answer, sent, Case, _gives_, statusAfter, message, told, declined}
-use Rattle.cases.specs.Unfolded.{calls}
 
 -- ---- associations
 -- the outbound SPI

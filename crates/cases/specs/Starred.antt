@@ -19,13 +19,13 @@ use Rattle.association.specs.Form.{accepted}
 use Rattle.association.specs.Start.{startOf}
 use Rattle.payload.specs.Calls.{arrivalOf, granted, denied, sendOf}
 use Rattle.clock.specs.Ticks.{tickOf}
-use Rattle.reply.specs.Replies.{checksBytes}
+use Rattle.reply_form.specs.Replies.{checksBytes}
 use Rattle.update.specs.declared.MessageOutcome.the-variants.{Moved}
 use Rattle.update.specs.Messages.{messageOf}
+use Rattle.history.specs.ExamplesUnfolded.{calls}
 use Rattle.cases.specs.Packets.{packetOf, address, locator, keymatIndex, moveOf}
 use Rattle.cases.specs.Held.{held, checked}
 use Rattle.cases.specs.Tables.{Seen, number, status, answer, sent, Case, _gives_, statusAfter, message, told, declined}
-use Rattle.cases.specs.Unfolded.{calls}
 
 -- ---- what is handed in
 -- an association with the inbound SPI 0x1001

@@ -17,9 +17,9 @@ use Rattle.association.specs.Start.{started, startOf}
 use Rattle.history.specs.Calls.{Call, message, arrival, send, tick, Answered, refusedBy, done, repeated, grantedTo, Step, stepOf, history, after}
 use Rattle.history.specs.Ledger.{arrived, granted, ageing, ledger, arrivedIn, grantedIn}
 use Rattle.history.specs.Words.{finds, leaves, retires, outstandingFrom, outstanding}
+use Rattle.history.specs.ExamplesUnfolded.{calls}
 use Rattle.cases.specs.Packets.{address, locator, moveOf, replyOf}
 use Rattle.cases.specs.Held.{held, checked}
-use Rattle.cases.specs.Unfolded.{calls}
 
 -- ---- the calls
 -- the association that the start makes: it holds address 1, ACTIVE

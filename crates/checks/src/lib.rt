@@ -1,8 +1,8 @@
-// New checks, and refusal 10. Depends on judge, listed, update, readdress, reply, association, locator,
+// New checks, and refusal 10. Depends on judge, listed, update, readdress, reply_form, association, locator,
 // locator_set, slots, slot and boolean.
 use locator::ListedLocator;
 use locator_set::SET_LIMIT;
-use reply::NONCE_COUNT;
+use reply_form::NONCE_COUNT;
 use slot::Check;
 use slot::Holding;
 use slot::SLOT_COUNT;

@@ -11,7 +11,7 @@ use association::Outcome;
 use judge::REPLY_ROOM;
 use libc::STDOUT_FILENO;
 use refusal::Refusal;
-use reply::NONCE_COUNT;
+use reply_form::NONCE_COUNT;
 use std::num::wrapping_add_u64;
 use update::MessageAnswer;
 use update::MessageOutcome;

@@ -32,7 +32,7 @@ use Rattle.payload.specs.declared.SendAnswer.{SendAnswer}
 use Rattle.payload.proofs.Kept.{arrival-keeps, send-keeps}
 use Rattle.clock.specs.Ticks.{ticked, tickOf}
 use Rattle.clock.proofs.Kept.{tick-keeps}
-use Rattle.readdress.specs.Checks.{nonceCount}
+use Rattle.reply_form.specs.Replies.{nonceCount}
 use Rattle.update.specs.declared.MessageOutcome.{MessageOutcome}
 use Rattle.update.specs.declared.MessageOutcome.the-variants.{Moved, Replied, Repeated, Declined}
 use Rattle.update.specs.Messages.{handleMessage, handled}

@@ -12,7 +12,7 @@ use Rattle.payload.specs.declared.SendOutcome.{SendOutcome}
 use Rattle.payload.specs.declared.SendOutcome.the-variants.{Granted, Denied}
 use Rattle.payload.specs.Calls.{arrivalOf, sendOf}
 use Rattle.clock.specs.Ticks.{tickOf}
-use Rattle.readdress.specs.Checks.{nonceCount}
+use Rattle.reply_form.specs.Replies.{nonceCount}
 use Rattle.update.specs.declared.MessageOutcome.{MessageOutcome}
 use Rattle.update.specs.declared.MessageOutcome.the-variants.{Moved, Replied, Repeated, Declined}
 use Rattle.update.specs.Messages.{messageOf}

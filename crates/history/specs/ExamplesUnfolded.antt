@@ -25,7 +25,7 @@ use Rattle.readdress.specs.Echoes.{verifyAll}
 use Rattle.readdress.specs.Steps.{rebind, entryFor, renewAll, retireAll, placeAll, markedSlot}
 use Rattle.readdress.specs.Checks.{checkCount, checked, checkFor, twice}
 use Rattle.readdress.specs.Moves.{settled, placed}
-use Rattle.reply.specs.Replies.{checksBytes, moveBytes}
+use Rattle.reply_form.specs.Replies.{checksBytes, moveBytes}
 use Rattle.update.specs.Messages.{afterMove, handleReply, handleMove, handled}
 use Rattle.history.specs.Calls.{history, after}
 use Rattle.history.specs.Ledger.{ledger, held, arrivedIn, grantedIn, ageingsIn, NoArrival}

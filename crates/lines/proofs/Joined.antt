@@ -4,11 +4,12 @@ use mathlib.Core.Path.{_≡_, refl, sym, _∙_}
 use mathlib.Core.List.{List, [], _∷_, _++_}
 use lib.ListN.{length, length-append}
 use native.Mathlib.Omega.{arith}
+use Rattle.octets.specs.Written.{joined}
 use Rattle.writer.specs.Writes.{writtenAt}
 use Rattle.writer.proofs.Writes.{written-length, written-then}
 use Rattle.text.specs.Texts.{endOf}
 use Rattle.text.proofs.Puts.{end-within, written-none}
-use Rattle.lines.specs.Laid.{joined, laidOut, laidEnd, Laid}
+use Rattle.lines.specs.Laid.{laidOut, laidEnd, Laid}
 
 -- one text, as `text` promises it
 pub one : (text : List ℕ) (at : ℕ) (before after : List ℕ) (next : ℕ) → (after ≡ writtenAt at text before) × (next ≡ endOf at text before)

@@ -3,7 +3,7 @@ use Prim.Native.Nat.{ℕ}
 use mathlib.Core.Path.{_≡_, refl}
 use mathlib.Core.Bool.{true}
 use mathlib.Core.List.{List, [], _∷_, map}
-use Rattle.octets.specs.Written.{bytesOf}
+use Rattle.octets.specs.Written.{bytesOf, joined}
 use Rattle.writer.specs.Writes.{writtenAt}
 use Rattle.text.specs.Texts.{hexOf, digitsOf, decimalOf, endOf}
 use Rattle.refusal.specs.Table.{refusal}
@@ -20,7 +20,7 @@ use Rattle.update.specs.declared.MessageOutcome.{MessageOutcome}
 use Rattle.update.specs.declared.MessageOutcome.the-variants.{Moved, Replied, Repeated, Declined}
 use Rattle.update.specs.declared.MessageAnswer.{MessageAnswer}
 use Rattle.trace.specs.declared.Call.the-variants.{Start, Message, Arrival, Send, Tick, Malformed}
-use Rattle.lines.specs.Laid.{joined, laidOut, laidEnd, Laid}
+use Rattle.lines.specs.Laid.{laidOut, laidEnd, Laid}
 use Rattle.lines.specs.Words.{ascii}
 use Rattle.lines.specs.State.{addressText, statusText, locatorText, slotText, slotsText, peerText, preferenceText, numbersText, headText, stateText}
 use Rattle.lines.specs.Answers.{nameText, callText, refusalText, outcomeText, sendText, countsText, replyText, messageText}

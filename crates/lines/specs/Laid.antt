@@ -1,14 +1,9 @@
 -- Texts that are written one after another, each where the one before it ends.
 use Prim.Native.Nat.{ℕ}
 use mathlib.Core.Path.{_≡_}
-use mathlib.Core.List.{List, [], _∷_, _++_}
+use mathlib.Core.List.{List, [], _∷_}
 use Rattle.writer.specs.Writes.{writtenAt}
 use Rattle.text.specs.Texts.{endOf}
-
--- all of them as one text
-abbrev pub joined : (texts : List (List ℕ)) → List ℕ
-joined [] = []
-joined (text ∷ texts) = text ++ joined texts
 
 -- the buffer after them
 unfoldable pub laidOut : (texts : List (List ℕ)) → (at : ℕ) → (buffer : List ℕ) → List ℕ

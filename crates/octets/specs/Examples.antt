@@ -7,7 +7,7 @@ use lib.Dec.{eqb}
 use Rattle.octets.specs.ExamplesHex.{hex}
 use Rattle.octets.specs.Numbers.{bigEndian, numberAt}
 use Rattle.octets.specs.Records.{records, some}
-use Rattle.octets.specs.Written.{bytesOf}
+use Rattle.octets.specs.Written.{bytesOf, joined}
 
 -- every digit, and spaces between them
 digits : (hex "0123456789abcdef" ≡ 0x01 ∷ 0x23 ∷ 0x45 ∷ 0x67 ∷ 0x89 ∷ 0xab ∷ 0xcd ∷ 0xef ∷ []) × (hex "0041000c 0 1 " ≡ 0 ∷ 65 ∷ 0 ∷ 12 ∷ 1 ∷ [])
@@ -27,6 +27,10 @@ fields = refl
 written : (map (λ (w : ℕ). bytesOf w 0x0a0b0c0d) (0 ∷ 1 ∷ 2 ∷ 4 ∷ 5 ∷ []) ≡ [] ∷ hex "0d" ∷ hex "0c0d" ∷ hex "0a0b0c0d" ∷ hex "000a0b0c0d" ∷ [])
 unfolding bytesOf
 written = refl
+
+-- in their order, and the empty ones too
+one-after-another : joined (hex "0a0b" ∷ [] ∷ hex "0c" ∷ []) ≡ hex "0a0b0c"
+one-after-another = refl
 
 -- records of two bytes each: the last may run past the end, none starts at the end, and there are at most so many as steps
 runs : map (λ (end : ℕ). records (λ (at : ℕ). at) (λ (at : ℕ). at + 2) end 9 1) (0 ∷ 1 ∷ 2 ∷ 5 ∷ 6 ∷ [])

@@ -25,7 +25,8 @@ use Rattle.path.specs.declared.Choice.{Choice}
 use Rattle.path.specs.declared.Choice.the-variants.{Nowhere, Chosen}
 use Rattle.path.specs.declared.Preference.{Preference}
 use Rattle.path.specs.declared.Preference.the-variants.{NoPreference, Prefers}
-use Rattle.readdress.specs.Checks.{checkCount, refusal10, nonceCount, checkedBy, checkFor}
+use Rattle.reply_form.specs.Replies.{nonceCount}
+use Rattle.readdress.specs.Checks.{checkCount, refusal10, checkedBy, checkFor}
 use Rattle.readdress.specs.Moves.{settled, placed, newSlots, newPreference}
 use Rattle.readdress.specs.Steps.{isListed, placeAll, dropped, markedSlot, prefer}
 use Rattle.readdress.specs.declared.Placement.{Placement}

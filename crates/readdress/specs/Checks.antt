@@ -19,10 +19,6 @@ use Rattle.slot.specs.Found.{withStatus, onLocator, holds, isDeprecated}
 use Rattle.slots.specs.Rules.{isOutstanding}
 use Rattle.readdress.specs.Steps.{isListed}
 
--- "eight nonces of 8 bytes"
-abbrev pub nonceCount : ℕ
-nonceCount = 8
-
 -- what is held after step 5 gets a new check: a listed address that is DEPRECATED
 abbrev pub awaitsHeld : List ListedLocator → Holding → Bool
 awaitsHeld listed Empty = false

@@ -18,7 +18,7 @@ use Rattle.path.specs.Choices.{lowest}
 use Rattle.readdress.specs.declared.Placement.{Placement}
 use Rattle.readdress.specs.Echoes.{answers, verifyAll, refusal8}
 use Rattle.readdress.specs.Steps.{rebind, entryFor, renewAll, retireAll, isFree, placeAll, markedSlot}
-use Rattle.readdress.specs.Checks.{nonceCount, awaits, checkCount, checked, checkFor, nonceTaken, twice, refusal10}
+use Rattle.readdress.specs.Checks.{awaits, checkCount, checked, checkFor, nonceTaken, twice, refusal10}
 use Rattle.readdress.specs.Moves.{settled, placed, newChecks, newSlots, newPreference}
 
 -- a slot that holds address n
@@ -125,10 +125,9 @@ checks = (refl, refl)
 
 -- the nonce that each address takes: 1, which keeps its status, 5, 3 and 4 in slot order, and 2, which is no longer held. A nonce that is not
 -- offered counts 0
-taken : (nonceCount ≡ 8)
-    × (map (λ (n : ℕ). nonceTaken (record { high = 1; low = n }) listed (11 ∷ 12 ∷ 13 ∷ 14 ∷ []) (after NoPreference .slots)) (1 ∷ 5 ∷ 3 ∷ 4 ∷ 2 ∷ [])
+taken : (map (λ (n : ℕ). nonceTaken (record { high = 1; low = n }) listed (11 ∷ 12 ∷ 13 ∷ 14 ∷ []) (after NoPreference .slots)) (1 ∷ 5 ∷ 3 ∷ 4 ∷ 2 ∷ [])
     ≡ none ∷ some 11 ∷ some 12 ∷ some 13 ∷ none ∷ [])
     × (nonceTaken (record { high = 1; low = 5 }) listed [] (after NoPreference .slots) ≡ some 0)
     × (checked (entry 3 false ∷ []) 7 [] 0 (holding 3 0 130 Deprecated ∷ []) ≡ holding 3 0 130 (waiting 0 7) ∷ [])
 unfolding placed settled verifyAll rebind renewAll retireAll entryFor placeAll lowest checkFor checked records.some
-taken = (refl, refl, refl, refl)
+taken = (refl, refl, refl)

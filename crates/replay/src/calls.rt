@@ -4,7 +4,7 @@ use crate::state;
 use association::Answer;
 use association::Association;
 use association::Outcome;
-use reply::NONCE_COUNT;
+use reply_form::NONCE_COUNT;
 use sections::Record;
 use text::put;
 use trace::Call;

@@ -7,16 +7,12 @@ use native.Mathlib.Omega.{arith}
 use borrow.Author.Tests.{lt-ltb, le-ltb}
 use Rattle.writer.specs.Writes.{writtenAt}
 use Rattle.writer.proofs.Writes.{written-first}
-use Rattle.reply.specs.Replies.{ackBytes, checksBytes, moveBytes, fitted, overwritten}
-use Rattle.reply.proofs.Sizes.{ack-length, checks-length}
+use Rattle.reply_form.specs.Replies.{ackBytes, checksBytes, moveBytes, fitted, overwritten}
+use Rattle.reply_form.proofs.Sizes.{ack-length, checks-length}
 
 -- what a function that writes a reply owes: its size, and the buffer after it
 abbrev pub Written : (reply b : List ℕ) → (size : ℕ) → (after : List ℕ) → Type 0
 Written reply b size after = (size ≡ length (fitted (length b) reply)) × (after ≡ overwritten (fitted (length b) reply) b)
-
--- a reply that fits is taken whole
-pub fitted-whole : (room : ℕ) (reply : List ℕ) → length reply ≤ room → fitted room reply ≡ reply
-fitted-whole room reply h = rw (le-ltb room (length reply) h)
 
 whole : (reply b after : List ℕ) (size : ℕ) → length reply ≡ size → size ≤ length b → after ≡ overwritten reply b → Written reply b size after
 whole reply b after size e h p =

@@ -11,8 +11,8 @@ use Rattle.parameter.specs.Types.{espInfo, seq, ack, echoRequestSigned}
 use Rattle.parameter.specs.Written.{parameterBytes}
 use Rattle.writer.specs.Writes.{writtenAt}
 use Rattle.writer.proofs.Writes.{written-beyond, written-more, written-first, parts-written}
-use Rattle.reply.specs.Replies.{espInfoBytes, seqBytes, ackBytes, echoRequestBytes, checkBytes, checksBytes, overwritten}
-use Rattle.reply.proofs.Sizes.{number-length, esp-info-length, check-length, checks-length}
+use Rattle.reply_form.specs.Replies.{espInfoBytes, seqBytes, ackBytes, echoRequestBytes, checkBytes, checksBytes, overwritten}
+use Rattle.reply_form.proofs.Sizes.{number-length, esp-info-length, check-length, checks-length}
 
 -- a part that does not fit is not written
 pub part-beyond : (at size : ℕ) (x b : List ℕ) → length x ≡ size → length b < at + size → b ≡ writtenAt at x b

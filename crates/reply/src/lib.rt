@@ -1,4 +1,4 @@
-// What is written back: the bytes of a reply, in the buffer that the caller lends. Depends on writer and parameter.
+// A reply, written into the buffer that the caller lends. Depends on reply_form, writer and parameter.
 use parameter::ACK;
 use parameter::ECHO_REQUEST_SIGNED;
 use parameter::ESP_INFO;
@@ -6,6 +6,7 @@ use parameter::ESP_INFO_LENGTH;
 use parameter::NONCE_SIZE;
 use parameter::SEQ;
 use parameter::SEQ_LENGTH;
+use reply_form::NONCE_COUNT;
 use writer::put_u16;
 use writer::put_u32;
 use writer::put_u64;
@@ -17,7 +18,7 @@ ghost use Rattle.octets.specs.Written.{bytesOf};
 ghost use Rattle.parameter.specs.Written.{parameterBytes};
 ghost use Rattle.writer.specs.Writes.{writtenAt};
 ghost use Rattle.reply.specs.Low.{fourBytes};
-ghost use Rattle.reply.specs.Replies.{checkSize, espInfoBytes, echoRequestBytes, ackBytes, checkBytes, checksBytes, moveBytes, fitted, overwritten};
+ghost use Rattle.reply_form.specs.Replies.{checkSize, espInfoBytes, echoRequestBytes, ackBytes, checkBytes, checksBytes, moveBytes, fitted, overwritten};
 
 // The bytes of a parameter's type and length, and of each parameter that is written; an ACK's size is a SEQ's too.
 const HEAD_SIZE: usize = 4;
@@ -39,9 +40,6 @@ const ECHO_REQUEST_AT: usize = 32;
 
 // How many numbers four bytes can hold.
 const FOUR_BYTES: u64 = 4294967296;
-
-// The nonces that a message brings.
-pub const NONCE_COUNT: usize = 8;
 
 // Writes the type and the length of a parameter.
 fn put_head(buffer: &mut [u8], at: usize, kind: u16, len: u16)

@@ -6,9 +6,10 @@ use Prim.Native.Nat.{ℕ, _*_, _^_, _<_, _≤_}
 use lib.Dec.{eqb, leb}
 use borrow.Author.Tests.{ltb-true, leb-true}
 use Rattle.boolean.proofs.Laws.{and-true-left, and-true-right}
+use Rattle.reply_form.specs.Replies.{nonceCount}
 use Rattle.sections.specs.declared.Record.{Record}
 use Rattle.sections.specs.Records.{sizeOf}
-use Rattle.trace.specs.Calls.{startNumber, messageNumber, numberSize, addressSize, nonceCount, roomLimit, numberOf, hasSizes, isNarrow, isStart, isMessage}
+use Rattle.trace.specs.Calls.{startNumber, messageNumber, numberSize, addressSize, roomLimit, numberOf, hasSizes, isNarrow, isStart, isMessage}
 
 module _ (s : List ℕ) (r : Record) (h : isStart s r ≡ true) where
   narrow : ℕ → Bool

@@ -7,6 +7,7 @@ use mathlib.Core.List.{List, [], _∷_, map}
 use lib.Dec.{ltb, leb, eqb}
 use Rattle.octets.specs.Numbers.{numberAt}
 use Rattle.address.specs.Rules.{addressAt}
+use Rattle.reply_form.specs.Replies.{nonceCount}
 use Rattle.sections.specs.declared.Section.{Section}
 use Rattle.sections.specs.declared.Record.{Record}
 use Rattle.sections.specs.Records.{sizeOf}
@@ -37,10 +38,6 @@ numberSize = 8
 
 abbrev pub addressSize : ℕ
 addressSize = 16
-
--- "eight nonces of 8 bytes": the number of them, as `readdress` has it too
-abbrev pub nonceCount : ℕ
-nonceCount = 8
 
 -- number k of a section
 abbrev pub numberOf : List ℕ → Section → ℕ → ℕ

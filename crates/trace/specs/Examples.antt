@@ -10,7 +10,7 @@ use Rattle.sections.specs.Records.{recordAt}
 use Rattle.sections.specs.Written.{sectionBytes, recordBytes}
 use Rattle.trace.specs.declared.Call.{Call}
 use Rattle.trace.specs.declared.Call.the-variants.{Start, Message, Arrival, Send, Tick, Malformed}
-use Rattle.trace.specs.Calls.{startNumber, messageNumber, arrivalNumber, sendNumber, tickNumber, numberSize, addressSize, nonceCount, isStart, roomLimit, isMessage, plainOf, callOf, noncesOf}
+use Rattle.trace.specs.Calls.{startNumber, messageNumber, arrivalNumber, sendNumber, tickNumber, numberSize, addressSize, isStart, roomLimit, isMessage, plainOf, callOf, noncesOf}
 
 -- numbers as they are written
 numbers : List ℕ → List ℕ
@@ -121,9 +121,9 @@ malformed : map read
 unfolding bytesOf sectionBytes recordBytes numbers isStart isMessage plainOf callOf
 malformed = refl
 
--- the numbers of the calls and the sizes, and "eight nonces of 8 bytes"
-numbered : startNumber ∷ messageNumber ∷ arrivalNumber ∷ sendNumber ∷ tickNumber ∷ numberSize ∷ addressSize ∷ nonceCount ∷ roomLimit ∷ []
-    ≡ 0 ∷ 1 ∷ 2 ∷ 3 ∷ 4 ∷ 8 ∷ 16 ∷ 8 ∷ 65535 ∷ []
+-- the numbers of the calls and the sizes
+numbered : startNumber ∷ messageNumber ∷ arrivalNumber ∷ sendNumber ∷ tickNumber ∷ numberSize ∷ addressSize ∷ roomLimit ∷ []
+    ≡ 0 ∷ 1 ∷ 2 ∷ 3 ∷ 4 ∷ 8 ∷ 16 ∷ 65535 ∷ []
 numbered = refl
 
 -- the nonces, in order

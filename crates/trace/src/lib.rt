@@ -1,6 +1,6 @@
-// A record of a trace as the call that it stands for. Depends on sections, address, reply, octets, boolean.
+// A record of a trace as the call that it stands for. Depends on sections, address, reply_form, octets, boolean.
 use address::Address;
-use reply::NONCE_COUNT;
+use reply_form::NONCE_COUNT;
 use sections::Record;
 use sections::Section;
 ghost use mathlib.Core.Path.{_≡_};

@@ -12,8 +12,8 @@ use Rattle.packet.specs.Readings.{readingOf}
 use Rattle.locator.specs.declared.ListedLocator.{ListedLocator}
 use Rattle.slot.specs.Found.{slotCount}
 use Rattle.readdress.proofs.Moved.{checks-most}
-use Rattle.reply.specs.Replies.{moveSize}
-use Rattle.reply.proofs.Sizes.{ack-length, move-length, overwritten-length}
+use Rattle.reply_form.specs.Replies.{moveSize}
+use Rattle.reply_form.proofs.Sizes.{ack-length, move-length, overwritten-length}
 use Rattle.association.specs.declared.Association.{Association}
 use Rattle.update.specs.Refusals.{replyRoom}
 use Rattle.update.specs.Messages.{Handled, differs, checksOf, handleMessage, handled, bufferAfter}

@@ -14,7 +14,8 @@ use Rattle.locator.specs.declared.ListedLocator.{ListedLocator}
 use Rattle.slot.specs.Found.{slotCount}
 use Rattle.slots.proofs.Kept.{clear-pairs, pairs-clear}
 use Rattle.readdress.specs.Echoes.{verifyAll}
-use Rattle.readdress.specs.Checks.{nonceCount, refusal10}
+use Rattle.readdress.specs.Checks.{refusal10}
+use Rattle.reply_form.specs.Replies.{nonceCount}
 use Rattle.readdress.specs.Moves.{newSlots}
 use Rattle.readdress.proofs.Settled.{verified-length, verified-apart}
 use Rattle.readdress.proofs.Moved.{preference-kept, moved-length, moved-apart}

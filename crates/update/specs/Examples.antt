@@ -34,7 +34,7 @@ use Rattle.readdress.specs.Echoes.{verifyAll}
 use Rattle.readdress.specs.Steps.{rebind, entryFor, renewAll, retireAll, placeAll, markedSlot}
 use Rattle.readdress.specs.Checks.{checked, checkCount, twice}
 use Rattle.readdress.specs.Moves.{settled, placed}
-use Rattle.reply.specs.Replies.{ackBytes, checkBytes, checksBytes, moveBytes}
+use Rattle.reply_form.specs.Replies.{ackBytes, checkBytes, checksBytes, moveBytes}
 use Rattle.update.specs.declared.MessageOutcome.the-variants.{Moved, Replied, Repeated, Declined}
 use Rattle.update.specs.Refusals.{refusal1, refusal2, refusal7, repeats, refusal9, refusal11}
 use Rattle.update.specs.Messages.{Handled, afterMove, refused, handleReply, handleMove, handled, answerOf, messageOf, bufferAfter}

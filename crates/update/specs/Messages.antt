@@ -21,7 +21,7 @@ use Rattle.association.specs.declared.PeerId.{PeerId}
 use Rattle.association.specs.declared.PeerId.the-variants.{Highest}
 use Rattle.association.specs.declared.Association.{Association}
 use Rattle.association.specs.Form.{refusal0}
-use Rattle.reply.specs.Replies.{ackBytes, moveBytes, overwritten}
+use Rattle.reply_form.specs.Replies.{ackBytes, moveBytes, overwritten}
 use Rattle.update.specs.Refusals.{refusal1, refusal2, refusal7, repeats, refusal9, refusal11}
 use Rattle.update.specs.declared.MessageOutcome.{MessageOutcome}
 use Rattle.update.specs.declared.MessageOutcome.the-variants.{Moved, Replied, Repeated, Declined}
@@ -116,6 +116,10 @@ moved a m set nonces = record {
 unfoldable pub handleReply : Association → EchoResponse → Handled
 handleReply a e = cond (refusal8 e (a .slots)) (refused 8 a) (replied a e)
 
+-- a Move that refusals 0 to 10 let pass: refusal 11, or steps 1 to 7
+abbrev pub accepted : Association → MoveFields → (set : List ListedLocator) → (nonces : List ℕ) → Handled
+accepted a m set nonces = cond (refusal11 (a .next) (checksOf a m set)) (refused 11 a) (moved a m set nonces)
+
 -- a Move that lists this set: refusal 7, Repeated, refusals 8 to 11
 unfoldable pub handleMove : Association → MoveFields → (set : List ListedLocator) → (nonces : List ℕ) → Handled
 handleMove a m set nonces =
@@ -124,8 +128,7 @@ handleMove a m set nonces =
     (cond (refusal8 (m .echo) (a .slots)) (refused 8 a)
     (cond (refusal9 (a .outbound) (m .old) (m .new) set) (refused 9 a)
     (cond (refusal10 nonces (a .slots)) (refused 10 a)
-    (cond (refusal11 (a .next) (checksOf a m set)) (refused 11 a)
-    (moved a m set nonces))))))
+    (accepted a m set nonces)))))
 
 -- what is read of the packet: one of the refusals 3 to 6, a Move with the locators that it lists, or a Reply
 abbrev pub handleMessage : Association → Message → (listed : List ListedLocator) → (nonces : List ℕ) → Handled

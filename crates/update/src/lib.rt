@@ -1,4 +1,4 @@
-// The message call: refusals 0 to 11, what an accepted message leaves and what is written back. Depends on readdress, reply, association and packet.
+// The message call: refusals 0 to 11, what an accepted message leaves and what is written back. Depends on readdress, reply_form, association and packet.
 // Definitions, laws and the types that they are about. The code that meets them stands in the crates above.
 use association::Association;
 use refusal::Refusal;

@@ -8,6 +8,7 @@ use lib.ListN.{length, take, drop, length-append, length-take, length-drop}
 use lib.Seq.{take-at, drop-at, drop-drop}
 use borrow.Author.Tests.{le-leb, lt-leb, leb-true}
 use native.Mathlib.Omega.{arith}
+use Rattle.octets.specs.Written.{joined}
 use Rattle.writer.specs.Writes.{writtenAt}
 
 -- bytes that fit stand between what is before and after them
@@ -58,11 +59,6 @@ pub written-more : (at next : ℕ) (x y buffer once twice : List ℕ) → next �
 written-more at next x y buffer once twice e h p q = q ∙ ap (λ (s : List ℕ). writtenAt next y s) p ∙ written-then at next x y buffer e h
 
 -- ---- parts one after another
--- the bytes of all of them
-abbrev pub joined : (parts : List (List ℕ)) → List ℕ
-joined [] = []
-joined (x ∷ parts) = x ++ joined parts
-
 -- a buffer after each is written right after the one before, the first of them k after a place
 abbrev pub laid : (at k : ℕ) → (parts : List (List ℕ)) → (buffer : List ℕ) → List ℕ
 laid at k [] buffer = buffer

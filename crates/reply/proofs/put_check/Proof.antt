@@ -1,7 +1,7 @@
 -- `reply::put_check` meets its contract. Its four parameters stand one after another. Assumes nothing.
 use native.Mathlib.Omega.{arith}
-use Rattle.reply.specs.Replies.{checkBytes}
-use Rattle.reply.proofs.Sizes.{check-length}
+use Rattle.reply_form.specs.Replies.{checkBytes}
+use Rattle.reply_form.proofs.Sizes.{check-length}
 use Rattle.reply.proofs.Parts.{part-beyond, check-written}
 use Rattle.reply.proofs.put_check.Statement.{statement}
 use Rattle.reply.proofs.put_check.Tie as tie

@@ -5,7 +5,7 @@ use native.Mathlib.Omega.{arith}
 use lib.ListN.{length}
 use Rattle.writer.specs.Writes.{writtenAt}
 use Rattle.writer.proofs.Writes.{written-length}
-use Rattle.reply.specs.Replies.{checksBytes}
+use Rattle.reply_form.specs.Replies.{checksBytes}
 use Rattle.reply.proofs.Parts.{checks-none, checks-next, checks-written}
 use Rattle.reply.proofs.put_checks.Statement.{statement}
 use Rattle.reply.proofs.put_checks.Tie as tie

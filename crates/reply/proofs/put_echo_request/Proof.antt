@@ -1,7 +1,7 @@
 -- `reply::put_echo_request` meets its contract. Its parts stand one after another. Assumes nothing.
 use native.Mathlib.Omega.{arith}
-use Rattle.reply.specs.Replies.{echoRequestBytes}
-use Rattle.reply.proofs.Sizes.{echo-request-length}
+use Rattle.reply_form.specs.Replies.{echoRequestBytes}
+use Rattle.reply_form.proofs.Sizes.{echo-request-length}
 use Rattle.reply.proofs.Parts.{part-beyond, echo-request-written}
 use Rattle.reply.proofs.put_echo_request.Statement.{statement}
 use Rattle.reply.proofs.put_echo_request.Tie as tie

@@ -1,7 +1,7 @@
 -- `reply::put_esp_info` meets its contract. Its parts stand one after another. Assumes nothing.
 use native.Mathlib.Omega.{arith}
-use Rattle.reply.specs.Replies.{espInfoBytes}
-use Rattle.reply.proofs.Sizes.{esp-info-length}
+use Rattle.reply_form.specs.Replies.{espInfoBytes}
+use Rattle.reply_form.proofs.Sizes.{esp-info-length}
 use Rattle.reply.proofs.Parts.{part-beyond, esp-info-written}
 use Rattle.reply.proofs.put_esp_info.Statement.{statement}
 use Rattle.reply.proofs.put_esp_info.Tie as tie

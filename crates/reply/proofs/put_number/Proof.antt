@@ -2,7 +2,7 @@
 use native.Mathlib.Omega.{arith}
 use Rattle.octets.specs.Written.{bytesOf}
 use Rattle.parameter.specs.Written.{parameterBytes}
-use Rattle.reply.proofs.Sizes.{number-length}
+use Rattle.reply_form.proofs.Sizes.{number-length}
 use Rattle.reply.proofs.Parts.{part-beyond, number-written}
 use Rattle.reply.proofs.put_number.Statement.{statement}
 use Rattle.reply.proofs.put_number.Tie as tie

@@ -1,0 +1,46 @@
+-- How many bytes a reply has. Assumes nothing.
+use mathlib.Core.Path.{_≡_, refl, _∙_}
+use mathlib.Core.List.{List}
+use Prim.Native.Nat.{ℕ, zero, suc, _+_, _*_, _≤_}
+use lib.ListN.{length, getD, length-append, length-drop}
+use native.Mathlib.Omega.{arith}
+use Rattle.octets.specs.Written.{bytesOf}
+use Rattle.octets.proofs.Sizes.{bytes-length}
+use Rattle.parameter.specs.Types.{ack}
+use Rattle.parameter.specs.Written.{parameterBytes}
+use Rattle.parameter.proofs.Sizes.{parameter-length}
+use Rattle.reply_form.specs.Replies.{checkSize, ackSize, espInfoBytes, ackBytes, echoRequestBytes, checkBytes, checksBytes, moveBytes, moveSize, overwritten}
+
+-- SEQ or ACK
+pub number-length : (kind value : ℕ) → length (parameterBytes kind (bytesOf 4 value)) ≡ ackSize
+number-length kind value = simp (parameter-length, bytes-length)
+
+pub esp-info-length : (inbound : ℕ) → length (espInfoBytes inbound) ≡ 16
+esp-info-length inbound = simp (parameter-length, length-append, bytes-length)
+
+pub echo-request-length : (nonce : ℕ) → length (echoRequestBytes nonce) ≡ 16
+echo-request-length nonce = simp (parameter-length, bytes-length)
+
+pub ack-length : (peer : ℕ) → length (ackBytes peer) ≡ ackSize
+ack-length peer = number-length ack peer
+
+pub check-length : (inbound peer id nonce : ℕ) → length (checkBytes inbound peer id nonce) ≡ checkSize
+check-length inbound peer id nonce = simp (length-append, parameter-length, bytes-length)
+
+pub checks-length : (inbound peer next : ℕ) (nonces : List ℕ) (k count : ℕ) → length (checksBytes inbound peer next nonces k count) ≡ checkSize * count
+unfolding checksBytes
+checks-length inbound peer next nonces k zero = refl
+checks-length inbound peer next nonces k (suc count) =
+    let one = check-length inbound peer (next + k) (getD nonces k 0) in
+    let rest = checks-length inbound peer next nonces (k + 1) count in
+    length-append (checkBytes inbound peer (next + k) (getD nonces k 0)) (checksBytes inbound peer next nonces (k + 1) count) ∙ omega arith
+
+-- 48 for each new check, or the ACK's 8
+pub move-length : (inbound peer next : ℕ) (nonces : List ℕ) (checks : ℕ) → length (moveBytes inbound peer next nonces checks) ≡ moveSize checks
+unfolding moveBytes
+move-length inbound peer next nonces zero = ack-length peer
+move-length inbound peer next nonces (suc checks) = checks-length inbound peer next nonces 0 (suc checks)
+
+-- a reply that fits leaves the buffer as long as it was
+pub overwritten-length : (reply buffer : List ℕ) → length reply ≤ length buffer → length (overwritten reply buffer) ≡ length buffer
+overwritten-length reply buffer h = simp (length-append, length-drop) (omega arith)

@@ -1,0 +1,48 @@
+-- Worked examples, computed from the definitions: the whole reply with one check, the order of two checks, and a reply without checks.
+use Prim.Native.Nat.{ℕ}
+use mathlib.Core.Path.{_≡_, refl}
+use mathlib.Core.List.{[], _∷_, _++_, map}
+use lib.ListN.{length, replicate}
+use Rattle.octets.specs.ExamplesHex.{hex}
+use Rattle.octets.specs.Written.{bytesOf}
+use Rattle.parameter.specs.Written.{parameterBytes}
+use Rattle.reply_form.specs.Replies.{nonceCount, checkSize, ackSize, ackBytes, checksBytes, moveBytes, moveSize, fitted, overwritten}
+
+-- "Peer ID 7, own ID 3, inbound SPI 0x1001, nonce 0102030405060708, one check, whole reply in hex"
+one-check : moveBytes 0x1001 7 3 (0x0102030405060708 ∷ []) 1
+    ≡ hex "0041000c 00000000 00001001 00001001 01810004 00000003 01c10004 00000007 03810008 01020304 05060708 00000000"
+unfolding moveBytes checksBytes parameterBytes bytesOf
+one-check = refl
+
+-- two checks: the second has the next nonce and the next own ID. A nonce that is not offered counts 0
+two-checks : (moveBytes 0x1001 7 3 (5 ∷ 6 ∷ []) 2
+    ≡ hex "0041000c 00000000 00001001 00001001 01810004 00000003 01c10004 00000007 03810008 00000000 00000005 00000000"
+    ++ hex "0041000c 00000000 00001001 00001001 01810004 00000004 01c10004 00000007 03810008 00000000 00000006 00000000")
+    × (moveBytes 0x1001 7 3 [] 1 ≡ moveBytes 0x1001 7 3 (0 ∷ []) 1)
+unfolding moveBytes checksBytes parameterBytes bytesOf
+two-checks = (refl, refl)
+
+-- the checks from the second on
+from-the-second : checksBytes 0x1001 7 3 (5 ∷ 6 ∷ 7 ∷ []) 1 2
+    ≡ hex "0041000c 00000000 00001001 00001001 01810004 00000004 01c10004 00000007 03810008 00000000 00000006 00000000"
+    ++ hex "0041000c 00000000 00001001 00001001 01810004 00000005 01c10004 00000007 03810008 00000000 00000007 00000000"
+unfolding checksBytes parameterBytes bytesOf
+from-the-second = refl
+
+-- "A Move without new checks writes an 8-byte ACK alone.": "01c10004 00000007", and the ninth byte of the buffer is as it was
+ack-alone : (moveBytes 0x1001 7 3 (5 ∷ []) 0 ≡ hex "01c10004 00000007")
+    × (overwritten (moveBytes 0x1001 7 3 [] 0) (replicate 9 0xff) ≡ hex "01c10004 00000007 ff")
+unfolding moveBytes parameterBytes bytesOf
+ack-alone = (refl, refl)
+
+-- "eight nonces", "Each writes 48 bytes", "an 8-byte ACK": the sizes of replies with 0, 1, 2 and 8 checks
+sizes : (nonceCount ∷ checkSize ∷ ackSize ∷ [] ≡ 8 ∷ 48 ∷ 8 ∷ [])
+    × (map moveSize (0 ∷ 1 ∷ 2 ∷ 8 ∷ []) ≡ 8 ∷ 48 ∷ 96 ∷ 384 ∷ [])
+    × (map (λ (n : ℕ). length (moveBytes 0x1001 7 3 [] n)) (0 ∷ 1 ∷ 2 ∷ 8 ∷ []) ≡ 8 ∷ 48 ∷ 96 ∷ 384 ∷ [])
+unfolding moveBytes checksBytes parameterBytes bytesOf
+sizes = (refl, refl, refl)
+
+-- eight bytes and nine hold an ACK, and seven take nothing of it
+fits : map (λ (room : ℕ). fitted room (ackBytes 7)) (7 ∷ 8 ∷ 9 ∷ []) ≡ [] ∷ hex "01c10004 00000007" ∷ hex "01c10004 00000007" ∷ []
+unfolding parameterBytes bytesOf
+fits = refl

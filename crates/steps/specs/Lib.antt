@@ -1,0 +1,2 @@
+pub mod Timely
+pub mod Examples
