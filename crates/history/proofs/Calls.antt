@@ -37,11 +37,12 @@ use Rattle.update.specs.declared.MessageOutcome.{MessageOutcome}
 use Rattle.update.specs.declared.MessageOutcome.the-variants.{Moved, Replied, Repeated, Declined}
 use Rattle.update.specs.Messages.{handleMessage, handled}
 use Rattle.update.proofs.Cases.{message-ends}
-use Rattle.update.proofs.Untouched.{isDeclined, message-untouched}
+use Rattle.update.proofs.Untouched.{isDeclined, message-untouched, declined-buffer}
 use Rattle.update.proofs.Kept.{message-keeps}
-use Rattle.history.specs.Calls.{Call, message, arrival, send, tick, Answered, refusedBy, ofOutcome, ofSend, ofMessage, answers, returned, isAccepted, after}
+use Rattle.history.specs.Calls.{Call, message, arrival, send, tick, Answered, refusedBy, ofOutcome, ofSend, ofMessage, done, repeated, grantedTo, answers, returned, lent, lentAfter, isAccepted, after}
 use Rattle.history.specs.Ledger.{held, entriesOf, lastOf}
 use Rattle.history.specs.Words.{isAuthentic, echoed, retires, taken}
+use Rattle.history.specs.Demand.{Demand1}
 use Rattle.history.proofs.Ledgers.{Funded, ageings-held, ageings-funded}
 use Rattle.history.proofs.Traces.{isHeeded, Traced, traced-unheeded, traced-still, traced-expired, traced-message}
 
@@ -233,3 +234,35 @@ did a (message packet authentic nonces eight buffer) = message-did a packet auth
 did a (arrival size) = arrival-did a size
 did a (send size) = send-did a size
 did a (tick time) = tick-did a time
+
+-- ---- demand 1
+-- "writes nothing in the reply buffer": of each call, whatever it is lent
+refused-unwritten : (a : Association) (c : Call) → isAccepted (answers a c) ≡ false → lentAfter a c ≡ lent c
+refused-unwritten a (message packet authentic nonces eight buffer) e =
+    ap (λ (b : List ℕ). b ∷ [])
+    (declined-buffer a packet authentic nonces buffer (declined-is (handled a packet authentic nonces (length buffer) .outcome) e))
+refused-unwritten a (arrival size) e = refl
+refused-unwritten a (send size) e = refl
+refused-unwritten a (tick time) e = refl
+
+-- what is not accepted is a refusal
+abbrev reasonOf : (r : Answered) → isAccepted r ≡ false → Refusal
+reasonOf (refusedBy r) e = r
+reasonOf done e = apart e
+reasonOf repeated e = apart e
+reasonOf (grantedTo n) e = apart e
+
+named-so : (r : Answered) (e : isAccepted r ≡ false) → r ≡ refusedBy (reasonOf r e)
+named-so (refusedBy r) e = refl
+named-so done e = apart e
+named-so repeated e = apart e
+named-so (grantedTo n) e = apart e
+
+-- demand 1 holds of every call that is refused, on any association
+pub demand-1 : (a : Association) (c : Call) → isAccepted (answers a c) ≡ false → Demand1 a c
+demand-1 a c e = record {
+  reason = reasonOf (answers a c) e;
+  named = named-so (answers a c) e;
+  given-back = did a c .refused-same e;
+  unwritten = refused-unwritten a c e;
+}

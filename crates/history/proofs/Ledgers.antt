@@ -70,7 +70,7 @@ decay-step p h q c t r s = omega (arith, mul-le-mul-left 8 r, mul-le-mul-left t 
 powers : (b k : ℕ) → b ^ (1 + k) ≡ b * b ^ k
 powers b k = let e : 1 + k ≡ suc k = omega arith in rw e (pow-succ' b k)
 
--- with no arrival among them, k ageings leave at most 7^k/8^k of the credit
+-- "with no accepted arrival among them", k ageings leave at most 7^k/8^k of the credit
 decay : (c : ℕ) (es : List Entry) → NoArrival es → 8 ^ ageingsIn es * held c es ≤ 7 ^ ageingsIn es * c
 unfolding held ageingsIn NoArrival
 decay c [] p = omega arith

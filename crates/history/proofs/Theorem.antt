@@ -195,7 +195,7 @@ start-begins time outbound inbound address lifetime e = go (refusal16 time outbo
       formed = started-formed time outbound inbound address lifetime p;
     }
 
--- every sequence of calls that follows an accepted start
+-- "Take every sequence of messages, arrivals, sends and ticks on one newly started association, refused calls included."
 pub demand-3 : (time outbound inbound : ℕ) (address : Address) (lifetime : ℕ) → startOf time outbound inbound address lifetime .outcome ≡ Accepted → (cs : List Call) →
     Demand3 (startOf time outbound inbound address lifetime .association) cs
 demand-3 time outbound inbound address lifetime e cs =

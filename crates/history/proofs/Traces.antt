@@ -45,9 +45,10 @@ isEcho (some n) nonce = eqb n nonce
 pub record Traced (before after : Option Status) (taken echo : Option ℕ) (retired heeded : Bool) : Type 0 where
   -- the nonce outstanding by the history is the one that the association holds
   pub nonce : whileUnverified after (orElse taken (nonceHeld before)) ≡ nonceHeld after
-  -- what is DEPRECATED or not held does not become ACTIVE
+  -- "No call makes an address ACTIVE that it finds DEPRECATED or not held."
   pub revived : isDead before ≡ true → foundAs isActive after ≡ false
-  -- what is UNVERIFIED becomes ACTIVE exactly where the call is heeded, echoes the nonce and does not retire the address
+  -- "A call that finds an address UNVERIFIED leaves it ACTIVE exactly when it is" heeded, "echoes the nonce outstanding for that address" and "does not itself
+  -- retire it"
   pub verified : (k : Check) → before ≡ some (Unverified k) → foundAs isActive after ≡ (heeded && (isEcho echo (k .nonce) && not retired))
 
 -- ---- a call that leaves the status

@@ -15,7 +15,7 @@ use Rattle.clock.specs.Ticks.{tickOf}
 use Rattle.reply_form.specs.Replies.{nonceCount}
 use Rattle.update.specs.declared.MessageOutcome.{MessageOutcome}
 use Rattle.update.specs.declared.MessageOutcome.the-variants.{Moved, Replied, Repeated, Declined}
-use Rattle.update.specs.Messages.{messageOf}
+use Rattle.update.specs.Messages.{messageOf, bufferAfter}
 
 -- a call with its inputs. A message brings the packet's bytes, the mark, "eight nonces", and a lent reply buffer of any length
 pub data Call : Type 0 where
@@ -62,6 +62,20 @@ returned a (arrival size) = arrivalOf a size .association
 returned a (send size) = sendOf a size .association
 returned a (tick time) = tickOf a time .association
 
+-- the buffers that the host lends to the call: a message's "reply buffer"
+abbrev pub lent : Call → List (List ℕ)
+lent (message packet authentic nonces eight buffer) = buffer ∷ []
+lent (arrival size) = []
+lent (send size) = []
+lent (tick time) = []
+
+-- what they hold after the call
+abbrev pub lentAfter : Association → Call → List (List ℕ)
+lentAfter a (message packet authentic nonces eight buffer) = bufferAfter a packet authentic nonces buffer ∷ []
+lentAfter a (arrival size) = []
+lentAfter a (send size) = []
+lentAfter a (tick time) = []
+
 -- "Accepted: answered without a refusal number". "A repeat is answered Repeated."
 abbrev pub isAccepted : Answered → Bool
 isAccepted (refusedBy r) = false
@@ -87,7 +101,7 @@ pub record Step : Type 0 where
 abbrev pub stepOf : Association → Call → Step
 stepOf a c = record { found = a; call = c; answered = answers a c; left = returned a c }
 
--- the history of a sequence of calls: each is handed what the one before it returned. "A refused call stands in it and changes nothing."
+-- the history of a sequence of calls. "Each is handed what the last one left, and nobody else writes it." "A refused call stands in it and changes nothing."
 unfoldable pub history : Association → List Call → List Step
 history a [] = []
 history a (c ∷ cs) = stepOf a c ∷ history (returned a c) cs

@@ -1,4 +1,4 @@
--- Worked examples, computed from the definitions: each word of demand 3 on calls and runs that tell it from its neighbours.
+-- Worked examples, computed from the definitions: each word of demands 1 and 3 on calls and runs that tell it from its neighbours.
 use Prim.Native.Nat.{ℕ, _+_}
 use Prim.Native.String.{String}
 use mathlib.Core.Path.{_≡_, refl}
@@ -20,7 +20,7 @@ use Rattle.association.specs.declared.Association.{Association}
 use Rattle.association.specs.declared.Outcome.the-variants.{Accepted, Refused}
 use Rattle.payload.specs.declared.SendOutcome.the-variants.{Granted, Denied}
 use Rattle.update.specs.declared.MessageOutcome.the-variants.{Moved, Replied, Repeated, Declined}
-use Rattle.history.specs.Calls.{Call, message, arrival, send, tick, refusedBy, done, repeated, grantedTo, ofOutcome, ofSend, ofMessage, answers, returned, isAccepted, isRepeat, stepOf, history, after}
+use Rattle.history.specs.Calls.{Call, message, arrival, send, tick, refusedBy, done, repeated, grantedTo, ofOutcome, ofSend, ofMessage, answers, returned, lent, lentAfter, isAccepted, isRepeat, stepOf, history, after}
 use Rattle.history.specs.Ledger.{Entry, arrived, granted, ageing, entriesOf, lastOf, ledger, held, creditHeld, arrivedIn, grantedIn, ageingsIn, NoArrival}
 use Rattle.history.specs.Words.{finds, leaves, isAuthentic, echoed, lists, retires, taken, outstanding}
 use Rattle.history.specs.Demand.{ledgerOf, next}
@@ -145,6 +145,16 @@ outcomes : (map ofOutcome (Accepted ∷ Refused (refusal 12) ∷ []) ≡ done �
     × (map isAccepted (done ∷ repeated ∷ grantedTo 0 ∷ refusedBy (refusal 0) ∷ []) ≡ true ∷ true ∷ true ∷ false ∷ [])
     × (map isRepeat (done ∷ repeated ∷ grantedTo 0 ∷ refusedBy (refusal 0) ∷ []) ≡ false ∷ true ∷ false ∷ false ∷ [])
 outcomes = (refl, refl, refl, refl, refl)
+
+-- the buffers that calls are lent, and after them: the reply to the first Move has a check for address 2; a message that is not authentic is refused
+buffers : let calls = first ∷ marked false (moveTwo "00002001" "00000000") 0x51 ∷ arrival 5 ∷ send 5 ∷ tick 103 ∷ [] in
+    (map lent calls ≡ (replicate 384 0 ∷ []) ∷ (replicate 384 0 ∷ []) ∷ [] ∷ [] ∷ [] ∷ [])
+    × (map (lentAfter begun) calls
+    ≡ ((hex "0041000c 00000000 00001001 00001001 01810004 00000000 01c10004 00000000 03810008 00000000 00000051 00000000" ++ replicate 336 0) ∷ [])
+    ∷ (replicate 384 0 ∷ [])
+    ∷ [] ∷ [] ∷ [] ∷ [])
+unfolding sequences
+buffers = (refl, refl)
 
 -- each call, accepted and refused: a refused one changes nothing, and neither does a repeat
 made : (map (answers begun) (first ∷ marked false (reply "00000051") 1 ∷ arrival 5 ∷ arrival 0 ∷ send 5 ∷ send 0 ∷ tick 103 ∷ tick 101 ∷ [])

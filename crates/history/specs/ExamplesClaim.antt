@@ -1,19 +1,20 @@
--- What demand 3's claim says of single runs: each part of it, used on a run where it says something, and each condition of a call that verifies an
--- address, where it is the one that fails.
+-- What the claims of demands 1 and 3 say of single runs: each part of them, used on a run where it says something, and each condition of a call that verifies
+-- an address, where it is the one that fails.
 use Prim.Native.Nat.{_≤_}
 use mathlib.Core.Path.{_≡_, refl}
 use mathlib.Core.Bool.{true, false}
 use mathlib.Core.Option.{none, some}
 use mathlib.Core.Logic.{_≢_, inl, inr}
 use mathlib.Core.List.{List, [], _∷_}
+use lib.ListN.{replicate}
 use Rattle.refusal.specs.Table.{refusal}
 use Rattle.slot.specs.declared.Status.the-variants.{Active, Deprecated}
 use Rattle.association.specs.declared.Association.{Association}
 use Rattle.association.specs.Form.{refusal0}
-use Rattle.history.specs.Calls.{Call, arrival, send, tick, Answered, refusedBy, done, repeated, Step, stepOf, history, after}
+use Rattle.history.specs.Calls.{Call, arrival, send, tick, Answered, refusedBy, done, repeated, returned, lentAfter, Step, stepOf, history, after}
 use Rattle.history.specs.Ledger.{arrived, granted, ageing}
 use Rattle.history.specs.Words.{leaves}
-use Rattle.history.specs.Demand.{Verifies, Demand3, next}
+use Rattle.history.specs.Demand.{Demand1, Verifies, Demand3, next}
 use Rattle.history.specs.Examples.{echoingOne, echoingTwo, moveTwo, reply, marked, brings, first, second, answering, address, begun}
 use Rattle.history.specs.ExamplesUnfolded.{sequences}
 
@@ -67,7 +68,18 @@ list-without-it : Verifies (address 2) before (answered (brings (echoingOne "000
 unfolding sequences
 list-without-it v = v .not-retired
 
--- ---- the parts of the claim
+-- ---- the parts of demand 1
+-- "A refused call names its reason": a Move that is not marked
+refused-so : (d : Demand1 begun (marked false (moveTwo "00002001" "00000000") 0x51)) → refusedBy (refusal 2) ≡ refusedBy (d .reason)
+unfolding sequences
+refused-so d = d .named
+
+-- "gives back the association it was given, and writes nothing in the reply buffer": the same on any association
+as-lent : let c = marked false (moveTwo "00002001" "00000000") 0x51 in
+    (a : Association) → Demand1 a c → (returned a c ≡ a) × (lentAfter a c ≡ replicate 384 0 ∷ [])
+as-lent a d = (d .given-back, d .unwritten)
+
+-- ---- the parts of demand 3
 -- "The association's credit equals" the credit held, which is "0 at the beginning"; no call is refused by 0 from there on
 at-the-beginning : (a : Association) → Demand3 a [] → (a .credit ≡ 0) × (refusal0 a ≡ false)
 unfolding sequences

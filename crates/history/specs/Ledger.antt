@@ -80,7 +80,7 @@ ageingsIn (arrived size ∷ es) = ageingsIn es
 ageingsIn (granted size ∷ es) = ageingsIn es
 ageingsIn (ageing ∷ es) = 1 + ageingsIn es
 
--- no accepted arrival is among them
+-- "with no accepted arrival among them"
 unfoldable pub NoArrival : List Entry → Type 0
 NoArrival [] = Unit {0}
 NoArrival (arrived size ∷ es) = ⊥

@@ -28,7 +28,7 @@ finds x s = statusIn x (s .found .slots)
 abbrev pub leaves : Address → Step → Option Status
 leaves x s = statusIn x (s .left .slots)
 
--- "an authentic .. message": the call is a message and is marked so
+-- "marked authentic": the call is a message, and is marked so
 abbrev pub isAuthentic : Call → Bool
 isAuthentic (message packet authentic nonces eight buffer) = authentic
 isAuthentic (arrival size) = false
