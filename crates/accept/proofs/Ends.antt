@@ -1,4 +1,4 @@
--- How a Move ends that refusals 0 to 10 let pass: refused by 11, or with its reply written. Assumes nothing.
+-- How a Move ends: Repeated, refused by 11, or with its reply written. Assumes nothing.
 use Prim.Native.Nat.{ℕ, _≤_}
 use mathlib.Core.Path.{_≡_, refl, ap, _∙_}
 use mathlib.Core.Bool.{true, false}
@@ -11,16 +11,28 @@ use Rattle.slot.specs.Found.{slotCount}
 use Rattle.readdress.specs.declared.Placement.{Placement}
 use Rattle.readdress.specs.Checks.{checkCount}
 use Rattle.readdress.specs.Moves.{newChecks}
-use Rattle.reply_form.specs.Replies.{moveBytes, fitted, overwritten}
-use Rattle.reply_form.proofs.Sizes.{move-length}
+use Rattle.reply_form.specs.Replies.{ackBytes, moveBytes, fitted, overwritten}
+use Rattle.reply_form.proofs.Sizes.{ack-length, move-length}
 use Rattle.association.specs.declared.Association.{Association}
 use Rattle.update.specs.Refusals.{replyRoom, refusal11}
-use Rattle.update.specs.declared.MessageOutcome.the-variants.{Moved}
+use Rattle.update.specs.declared.MessageOutcome.the-variants.{Moved, Repeated}
 use Rattle.update.specs.declared.MessageAnswer.{MessageAnswer}
-use Rattle.update.specs.Messages.{placement, checksOf, afterMove, refused, moved, accepted, answerOf}
+use Rattle.update.specs.Messages.{placement, checksOf, afterMove, refused, repeated, moved, accepted, answerOf}
 use Rattle.update.proofs.Buffers.{move-fits}
+use Rattle.accept.specs.declared.Judgement.{Judgement}
+use Rattle.accept.specs.Judged.{judged}
 use Rattle.accept.proofs.Written.{Answers, written-whole}
 
+-- ---- a repeat
+pub repeat-written : (a : Association) (id : ℕ) (b after : List ℕ) (n : ℕ) (r : MessageAnswer) → replyRoom ≤ length b →
+    n ≡ length (fitted (length b) (ackBytes id)) → after ≡ overwritten (fitted (length b) (ackBytes id)) b →
+    r ≡ record { outcome = Repeated; written = n; checks = 0; keymat = 0; association = a } → Answers (repeated a id) b r after
+repeat-written a id b after n r h e f g =
+    let l = ack-length id in
+    let w = written-whole (ackBytes id) b after n (omega arith) e f in
+    (g ∙ rw (w .0), w .1)
+
+-- ---- a Move that refusals 0 to 10 let pass
 module _ (a : Association) (m : MoveFields) (set : List ListedLocator) (nonces b : List ℕ) where
   -- the reply of a Move is written whole
   pub move-written : (after : List ℕ) (n k : ℕ) (left : Association) (r : MessageAnswer) →
@@ -46,3 +58,8 @@ module _ (a : Association) (m : MoveFields) (set : List ListedLocator) (nonces b
     pub move-goes : (r : MessageAnswer) (after : List ℕ) → refusal11 (a .next) k ≡ false → Answers (moved a m set nonces) b r after →
         Answers (accepted a m set nonces) b r after
     move-goes r after p e = let q : refusal11 (a .next) (checksOf a m set) ≡ false = rw (← c) p in rw q e
+
+-- ---- by how the Move is judged
+pub judged-so : (a : Association) (m : MoveFields) (set : List ListedLocator) (nonces b : List ℕ) (j k : Judgement) (r : MessageAnswer) (after : List ℕ) → j ≡ k →
+    Answers (judged a m set nonces k) b r after → Answers (judged a m set nonces j) b r after
+judged-so a m set nonces b j k r after e f = rw e f

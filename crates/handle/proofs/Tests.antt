@@ -1,22 +1,19 @@
 -- What the tests of a Move lead to, by the definition. Assumes nothing.
-use Prim.Native.Nat.{ℕ, _≤_}
-use mathlib.Core.Path.{_≡_, _∙_}
+use Prim.Native.Nat.{ℕ}
+use mathlib.Core.Path.{_≡_, subst}
 use mathlib.Core.Bool.{true, false}
 use mathlib.Core.List.{List}
 use lib.ListN.{length}
-use native.Mathlib.Omega.{arith}
 use Rattle.packet.specs.declared.MoveFields.{MoveFields}
 use Rattle.locator.specs.declared.ListedLocator.{ListedLocator}
 use Rattle.readdress.specs.Echoes.{refusal8}
 use Rattle.readdress.specs.Checks.{refusal10}
-use Rattle.reply_form.specs.Replies.{ackBytes, fitted, overwritten}
-use Rattle.reply_form.proofs.Sizes.{ack-length}
 use Rattle.association.specs.declared.Association.{Association}
-use Rattle.update.specs.Refusals.{replyRoom, refusal7, repeats, refusal9}
-use Rattle.update.specs.declared.MessageOutcome.the-variants.{Repeated}
+use Rattle.update.specs.Refusals.{refusal7, repeats, refusal9}
 use Rattle.update.specs.declared.MessageAnswer.{MessageAnswer}
-use Rattle.update.specs.Messages.{refused, repeated, accepted, handleMove}
-use Rattle.accept.proofs.Written.{Answers, written-whole}
+use Rattle.update.specs.Messages.{Handled, refused, repeated, accepted, handleMove}
+use Rattle.accept.specs.Room.{guarded}
+use Rattle.accept.proofs.Written.{Answers}
 
 module _ (a : Association) (m : MoveFields) (set : List ListedLocator) (nonces : List ℕ) where
   pub stops-7 : refusal7 (m .id) (a .peer) ≡ true → refused 7 a ≡ handleMove a m set nonces
@@ -52,16 +49,12 @@ module _ (a : Association) (m : MoveFields) (set : List ListedLocator) (nonces :
     pub bound : refusal9 (a .outbound) (m .old) (m .new) set ≡ false
     pub fresh : refusal10 nonces (a .slots) ≡ false
 
-  -- then the answer is `accept`'s
+  -- then the answer is what is left
   pub move-goes : Tried → accepted a m set nonces ≡ handleMove a m set nonces
   unfolding handleMove
   move-goes t = rw (t .newer .higher, t .newer .other, t .answered, t .bound, t .fresh)
 
--- ---- a repeat
-pub repeat-written : (a : Association) (id : ℕ) (b after : List ℕ) (n : ℕ) (r : MessageAnswer) → replyRoom ≤ length b →
-    n ≡ length (fitted (length b) (ackBytes id)) → after ≡ overwritten (fitted (length b) (ackBytes id)) b →
-    r ≡ record { outcome = Repeated; written = n; checks = 0; keymat = 0; association = a } → Answers (repeated a id) b r after
-repeat-written a id b after n r h e f g =
-    let l = ack-length id in
-    let w = written-whole (ackBytes id) b after n (omega arith) e f in
-    (g ∙ rw (w .0), w .1)
+-- ---- the answer goes by the judgement
+pub guarded-so : (a : Association) (h k : Handled) (b : List ℕ) (r : MessageAnswer) (after : List ℕ) → h ≡ k → Answers (guarded (length b) a h) b r after →
+    Answers (guarded (length b) a k) b r after
+guarded-so a h k b r after e f = subst (λ (x : Handled). Answers (guarded (length b) a x) b r after) e f

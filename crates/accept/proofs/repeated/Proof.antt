@@ -1,10 +1,10 @@
--- `handle::repeated` meets its contract. Assumes nothing.
+-- `accept::repeated` meets its contract. Assumes nothing.
 use mathlib.Core.Path.{refl}
-use Rattle.handle.proofs.Tests.{repeat-written}
+use Rattle.accept.proofs.Ends.{repeat-written}
 use borrow.Author.Needs.{needs}
 use denote.Ref.{now}
-use Rattle.handle.proofs.repeated.Statement.{statement}
-use Rattle.handle.proofs.repeated.Tie as tie
+use Rattle.accept.proofs.repeated.Statement.{statement}
+use Rattle.accept.proofs.repeated.Tie as tie
 
 write-ack-requires : tie.Need-write-ack-requires
 write-ack-requires c κs = tt
