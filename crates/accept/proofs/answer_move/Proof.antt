@@ -6,7 +6,6 @@ use mathlib.Core.Bool.{false}
 use mathlib.Core.List.{List}
 use lib.ListN.{length, take}
 use denote.Ref.{now}
-use Rattle.locator.specs.declared.ListedLocator.{ListedLocator}
 use Rattle.credit.specs.Clock.{timeLimit}
 use Rattle.update.specs.Refusals.{refusal1}
 use Rattle.update.specs.declared.MessageAnswer.{MessageAnswer}

@@ -7,7 +7,7 @@ use Rattle.locator.specs.declared.ListedLocator.{ListedLocator}
 use Rattle.readdress.specs.Echoes.{refusal8}
 use Rattle.update.specs.Refusals.{refusal9}
 use Rattle.answer.proofs.Tests.{found}
-use Rattle.handle.proofs.Tests.{Newer, stops-7, repeat-goes, stops-8, stops-9, stops-10, Tried, move-goes}
+use Rattle.handle.proofs.Tests.{Newer, stops-7, repeat-goes, stops-8, stops-9, stops-10, move-goes}
 use Rattle.handle.proofs.judge_move.Statement.{statement}
 use Rattle.handle.proofs.judge_move.Tie as tie
 
