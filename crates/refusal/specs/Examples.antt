@@ -1,9 +1,9 @@
--- Document 01's table, written out.
+-- Document 01's table, and the refusals of order 1, written out.
 use Prim.Native.Nat.{ℕ}
 use mathlib.Core.Path.{_≡_, refl}
 use mathlib.Core.List.{List, [], _∷_, map}
 use Rattle.refusal.specs.declared.Refusal.{Refusal}
-use Rattle.refusal.specs.declared.Refusal.the-variants.{BadAssociation, ShortReplyBuffer, NotAuthentic, Malformed, UnknownParameter, UnknownMessage, BadLocatorSet, StaleUpdateId, UnmatchedEcho, WrongSpi, RepeatedNonce, UpdateIdsUsedUp, BadTime, BadSize, NoPath, NoCredit, BadStart}
+use Rattle.refusal.specs.declared.Refusal.the-variants.{BadAssociation, ShortReplyBuffer, NotAuthentic, Malformed, UnknownParameter, UnknownMessage, BadLocatorSet, StaleUpdateId, UnmatchedEcho, WrongSpi, RepeatedNonce, UpdateIdsUsedUp, BadTime, BadSize, NoPath, NoCredit, BadStart, BadListSize, BadList, BadInboundSpi, NoUpdateIdLeft, ShortBuffer, LongOpaque}
 use Rattle.refusal.specs.Table.{numberOf, refusal}
 
 -- a number of the table, and the refusal that it is
@@ -25,9 +25,9 @@ table =
     ∷ (2 is NotAuthentic)
     -- "under 40 bytes, header rule broken, .."
     ∷ (3 is Malformed)
-    -- "odd type not known, or 897"
+    -- "odd type not known"; 897 is known since order 1
     ∷ (4 is UnknownParameter)
-    -- "neither Move nor Reply"
+    -- none of the three kinds
     ∷ (5 is UnknownMessage)
     -- "set empty, over 8, not filled exactly, .."
     ∷ (6 is BadLocatorSet)
@@ -51,6 +51,18 @@ table =
     ∷ (15 is NoCredit)
     -- "start: time 2^40 or more, .."
     ∷ (16 is BadStart)
+    -- order 1: "list outside 1 to 8"
+    ∷ (17 is BadListSize)
+    -- "list row 6 would refuse"
+    ∷ (18 is BadList)
+    -- "SPI 0"
+    ∷ (19 is BadInboundSpi)
+    -- "own IDs used up"
+    ∷ (20 is NoUpdateIdLeft)
+    -- "buffer below what is to be written"
+    ∷ (21 is ShortBuffer)
+    -- "Opaque over 64"
+    ∷ (22 is LongOpaque)
     ∷ []
 
 -- each refusal has its number, and each number its refusal

@@ -1,9 +1,9 @@
--- Document 01's table of refusals: each refusal and its number.
+-- Document 01's table of refusals, and after 16 those of document 02's orders, which "get 17 and up": each refusal and its number.
 use Prim.Native.Nat.{ℕ}
 use mathlib.Core.List.{List, [], _∷_}
 use lib.ListN.{getD}
 use Rattle.refusal.specs.declared.Refusal.{Refusal}
-use Rattle.refusal.specs.declared.Refusal.the-variants.{BadAssociation, ShortReplyBuffer, NotAuthentic, Malformed, UnknownParameter, UnknownMessage, BadLocatorSet, StaleUpdateId, UnmatchedEcho, WrongSpi, RepeatedNonce, UpdateIdsUsedUp, BadTime, BadSize, NoPath, NoCredit, BadStart}
+use Rattle.refusal.specs.declared.Refusal.the-variants.{BadAssociation, ShortReplyBuffer, NotAuthentic, Malformed, UnknownParameter, UnknownMessage, BadLocatorSet, StaleUpdateId, UnmatchedEcho, WrongSpi, RepeatedNonce, UpdateIdsUsedUp, BadTime, BadSize, NoPath, NoCredit, BadStart, BadListSize, BadList, BadInboundSpi, NoUpdateIdLeft, ShortBuffer, LongOpaque}
 
 -- "A refusal returns its number": the number of each case
 abbrev pub numberOf : Refusal → ℕ
@@ -24,8 +24,14 @@ numberOf BadSize = 13
 numberOf NoPath = 14
 numberOf NoCredit = 15
 numberOf BadStart = 16
+numberOf BadListSize = 17
+numberOf BadList = 18
+numberOf BadInboundSpi = 19
+numberOf NoUpdateIdLeft = 20
+numberOf ShortBuffer = 21
+numberOf LongOpaque = 22
 
--- the refusals in the order of the table, from 0
+-- the refusals in the order of their numbers, from 0
 abbrev pub refusals : List Refusal
 refusals =
     BadAssociation
@@ -45,6 +51,12 @@ refusals =
     ∷ NoPath
     ∷ NoCredit
     ∷ BadStart
+    ∷ BadListSize
+    ∷ BadList
+    ∷ BadInboundSpi
+    ∷ NoUpdateIdLeft
+    ∷ ShortBuffer
+    ∷ LongOpaque
     ∷ []
 
 -- the refusal of a number: definitions of other crates name a refusal by the table's number, as `refusal 3`

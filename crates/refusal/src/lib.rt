@@ -1,8 +1,8 @@
-// Document 01's table of refusals, as one enum for every call. Depends on nothing.
+// The refusals of document 01's table and of the orders after it, as one enum for every call. Depends on nothing.
 ghost use mathlib.Core.Path.{_≡_};
 ghost use Rattle.refusal.specs.Table.{numberOf};
 
-// One case for each refusal of the table, in its order, from 0. `numberOf` in specs/ has the numbers.
+// One case for each refusal, in the order of the numbers, from 0. `numberOf` in specs/ has the numbers.
 pub enum Refusal {
     BadAssociation,
     ShortReplyBuffer,
@@ -21,9 +21,15 @@ pub enum Refusal {
     NoPath,
     NoCredit,
     BadStart,
+    BadListSize,
+    BadList,
+    BadInboundSpi,
+    NoUpdateIdLeft,
+    ShortBuffer,
+    LongOpaque,
 }
 
-// The number that the table gives the refusal.
+// The number that the papers give the refusal.
 pub fn number(refusal: Refusal) -> u8
     ensures { λ r. ⌜ r ≡ numberOf refusal ⌝ }
 {
@@ -45,5 +51,11 @@ pub fn number(refusal: Refusal) -> u8
         Refusal::NoPath => 14,
         Refusal::NoCredit => 15,
         Refusal::BadStart => 16,
+        Refusal::BadListSize => 17,
+        Refusal::BadList => 18,
+        Refusal::BadInboundSpi => 19,
+        Refusal::NoUpdateIdLeft => 20,
+        Refusal::ShortBuffer => 21,
+        Refusal::LongOpaque => 22,
     }
 }
