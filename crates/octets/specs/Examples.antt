@@ -1,13 +1,14 @@
 -- Worked examples, computed from the definitions.
-use Prim.Native.Nat.{ℕ, _+_}
+use Prim.Native.Nat.{ℕ, zero, suc, _+_}
 use mathlib.Core.Path.{_≡_, refl}
 use mathlib.Core.Bool.{true, false}
 use mathlib.Core.List.{[], _∷_, map}
+use native.Mathlib.Omega.{arith}
 use lib.Dec.{eqb}
 use Rattle.octets.specs.ExamplesHex.{hex}
 use Rattle.octets.specs.Numbers.{bigEndian, numberAt}
 use Rattle.octets.specs.Records.{records, some}
-use Rattle.octets.specs.Written.{bytesOf, joined}
+use Rattle.octets.specs.Written.{bytesOf, joined, Octets}
 
 -- every digit, and spaces between them
 digits : (hex "0123456789abcdef" ≡ 0x01 ∷ 0x23 ∷ 0x45 ∷ 0x67 ∷ 0x89 ∷ 0xab ∷ 0xcd ∷ 0xef ∷ []) × (hex "0041000c 0 1 " ≡ 0 ∷ 65 ∷ 0 ∷ 12 ∷ 1 ∷ [])
@@ -46,3 +47,11 @@ steps = refl
 among : map (some (eqb 3)) ([] ∷ (3 ∷ []) ∷ (3 ∷ 4 ∷ []) ∷ (4 ∷ 3 ∷ []) ∷ (2 ∷ 4 ∷ []) ∷ []) ≡ false ∷ true ∷ true ∷ true ∷ false ∷ []
 unfolding some
 among = refl
+
+-- each number of s is that of a byte: 255 is, and 256 is not
+last-byte : Octets (255 ∷ [])
+last-byte zero = omega arith
+last-byte (suc i) = omega arith
+
+past-a-byte : Octets (0 ∷ 256 ∷ []) → ⊥
+past-a-byte all = let wide = all 1 in omega arith

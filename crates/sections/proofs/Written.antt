@@ -1,13 +1,13 @@
 -- What is written is read back: whatever stands before a record and after it. Assumes nothing.
-use Prim.Native.Nat.{ℕ, _+_, _-_, _/_, _%_, _<_, _≤_}
+use Prim.Native.Nat.{ℕ, _+_, _-_, _<_, _≤_}
 use mathlib.Core.Path.{_≡_, refl, sym, ap, _∙_}
-use mathlib.Core.List.{List, _∷_, _++_, append-assoc}
+use mathlib.Core.List.{List, _++_, append-assoc}
 use lib.ListN.{length, length-append}
-use lib.Seq.{take-at, drop-at, getD-at, getD-append-add}
+use lib.Seq.{take-at, drop-at}
 use native.Mathlib.Omega.{arith}
 use Rattle.octets.specs.Numbers.{numberAt}
 use Rattle.octets.specs.Written.{bytesOf}
-use Rattle.octets.proofs.Fields.{number-within}
+use Rattle.octets.proofs.ReadBack.{number-read}
 use Rattle.octets.proofs.Sizes.{bytes-length}
 use Rattle.sections.specs.declared.Section.{Section}
 use Rattle.sections.specs.declared.Record.{Record}
@@ -32,15 +32,11 @@ module _ (before bytes after : List ℕ) where
 
   -- the count is read back
   counted : length bytes < 65536 → numberAt written (length before) countSize ≡ length bytes
-  unfolding sectionBytes bytesOf
+  unfolding sectionBytes
   counted few =
-      let n : ℕ = length bytes in
-      let high : ℕ = n / 256 % 256 in
-      let low : ℕ = n / 1 % 256 in
-      let room : length before + 2 ≤ length (before ++ (high ∷ low ∷ (bytes ++ after))) = simp length-append (omega arith) in
-      let one : n / 1 ≡ n = omega arith in
-      number-within (before ++ (high ∷ low ∷ (bytes ++ after))) (length before) 2 room
-      ∙ rw (getD-at before high (low ∷ (bytes ++ after)) 0 (length before) refl, getD-append-add before (high ∷ low ∷ (bytes ++ after)) 1 0, one) (omega arith)
+      let count : List ℕ = bytesOf countSize (length bytes) in
+      let parts : before ++ ((count ++ bytes) ++ after) ≡ before ++ (count ++ (bytes ++ after)) = simp append-assoc in
+      rw parts (number-read countSize (length bytes) before (bytes ++ after) few)
 
   -- so is the section
   section-read : length bytes < 65536 → sectionAt written (length before) ≡ placed (length before) bytes

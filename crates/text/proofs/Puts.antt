@@ -1,15 +1,13 @@
 -- Texts written at a place, and the loops that write them. Assumes nothing.
 use Prim.Native.Nat.{ℕ, suc, _+_, _*_, _/_, _%_, _≤_, _<_}
 use mathlib.Core.Path.{_≡_, refl, sym, ap, _∙_}
-use mathlib.Core.Bool.{Bool, true, false, cond}
 use mathlib.Core.List.{List, [], _∷_, _++_}
-use lib.Dec.{leb}
 use lib.ListN.{length, take, drop, getD, take-append-drop, length-append}
 use lib.Seq.{take-suc, take-all}
 use borrow.Author.Tests.{le-leb, lt-leb}
 use native.Mathlib.Omega.{arith}
 use Rattle.writer.specs.Writes.{writtenAt}
-use Rattle.writer.proofs.Writes.{written-beyond, written-length, written-more}
+use Rattle.writer.proofs.Writes.{written-beyond, written-length, written-none, written-more}
 use Rattle.text.specs.Texts.{glyphOf, hexOf, endOf}
 
 -- ---- where a text ends
@@ -27,18 +25,6 @@ module _ (at : ℕ) (text buffer : List ℕ) where
 -- what is written leaves the buffer as long as it was
 pub kept-length : (at : ℕ) (text buffer out : List ℕ) → out ≡ writtenAt at text buffer → length out ≡ length buffer
 kept-length at text buffer out e = ap length e ∙ written-length at text buffer
-
--- no text changes nothing
-pub written-none : (at : ℕ) (buffer : List ℕ) → buffer ≡ writtenAt at [] buffer
-unfolding writtenAt
-written-none at buffer = go (leb (at + 0) (length buffer))
-  where
-    same : take at buffer ++ drop (at + 0) buffer ≡ buffer
-    same = let e : at + 0 ≡ at = omega arith in rw e (take-append-drop at buffer)
-
-    go : (b : Bool) → buffer ≡ cond b (take at buffer ++ drop (at + 0) buffer) buffer
-    go true = sym same
-    go false = refl
 
 -- ---- bytes in hex, one after another
 pub hex-append : (x y : List ℕ) → hexOf (x ++ y) ≡ hexOf x ++ hexOf y

@@ -4,7 +4,7 @@ use mathlib.Core.Path.{_≡_, refl, sym, ap, _∙_}
 use mathlib.Core.Bool.{Bool, true, false, cond}
 use mathlib.Core.List.{List, [], _∷_, _++_, append-assoc, append-nil}
 use lib.Dec.{leb}
-use lib.ListN.{length, take, drop, length-append, length-take, length-drop}
+use lib.ListN.{length, take, drop, take-append-drop, length-append, length-take, length-drop}
 use lib.Seq.{take-at, drop-at, drop-drop}
 use borrow.Author.Tests.{le-leb, lt-leb, leb-true}
 use native.Mathlib.Omega.{arith}
@@ -31,6 +31,18 @@ written-length at bytes buffer = go (leb (at + length bytes) (length buffer)) re
         → length (cond b (take at buffer ++ (bytes ++ drop (at + length bytes) buffer)) buffer) ≡ length buffer
     go true e = let h : at + length bytes ≤ length buffer = leb-true (at + length bytes) (length buffer) e in simp (length-append, length-take, length-drop) (omega arith)
     go false e = refl
+
+-- no bytes change nothing
+pub written-none : (at : ℕ) (buffer : List ℕ) → buffer ≡ writtenAt at [] buffer
+unfolding writtenAt
+written-none at buffer = go (leb (at + 0) (length buffer))
+  where
+    same : take at buffer ++ drop (at + 0) buffer ≡ buffer
+    same = let e : at + 0 ≡ at = omega arith in rw e (take-append-drop at buffer)
+
+    go : (b : Bool) → buffer ≡ cond b (take at buffer ++ drop (at + 0) buffer) buffer
+    go true = sym same
+    go false = refl
 
 -- bytes, and then others right after them
 pub written-then : (at next : ℕ) (x y buffer : List ℕ) → next ≡ at + length x → next + length y ≤ length buffer
