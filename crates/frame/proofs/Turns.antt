@@ -19,7 +19,7 @@ use Rattle.frame.specs.declared.Walked.the-variants.{Rejected, Complete}
 use Rattle.parameter.specs.declared.Step.{Step}
 use Rattle.parameter.specs.declared.Step.the-variants.{Found, End, Refused}
 use Rattle.frame.specs.Header.{headerSize, headerHolds}
-use Rattle.parameter.specs.Types.{espInfo, locatorSet, seq, ack, echoResponseSigned}
+use Rattle.parameter.specs.Types.{espInfo, locatorSet, seq, ack, echoRequestSigned, echoResponseSigned}
 use Rattle.parameter.specs.Parameters.{parameterAt, stepAt, broken}
 use Rattle.frame.specs.Parameters.{fallsBelow, falls, illFormed, illAfter}
 use Rattle.frame.proofs.Formed.{ill-first}
@@ -35,12 +35,13 @@ surveyed seen ps = record {
   set = occurs locatorSet (seen .set) ps;
   seq = occurs seq (seen .seq) ps;
   ack = occurs ack (seen .ack) ps;
+  request = occurs echoRequestSigned (seen .request) ps;
   echo = occurs echoResponseSigned (seen .echo) ps;
 }
 
 -- nothing seen yet
 abbrev pub unseen : Survey
-unseen = record { unknown = 0; esp = never; set = never; seq = never; ack = never; echo = never }
+unseen = record { unknown = 0; esp = never; set = never; seq = never; ack = never; request = never; echo = never }
 
 -- the answer of the walk over the parameters ps, after one of type `last` and what was seen before them
 unfoldable pub judged : List ℕ → ℕ → Survey → List Parameter → Walked

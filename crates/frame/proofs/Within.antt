@@ -61,7 +61,7 @@ module _ (s : List ℕ) (type : ℕ) (P : Occurrence → Type 0)
           (or-false-right (pastEnd s p) (some (pastEnd s) rest) e) (or-false-right (wrong p) (some wrong rest) f)
 
   -- from the packet's first parameter on
-  packet-keeps : P never → refusal3 s ≡ false → P (occurs type never (parameters s))
+  pub packet-keeps : P never → refusal3 s ≡ false → P (occurs type never (parameters s))
   packet-keeps h e =
       let ps = parameters s in
       let ill = or-false-right (not (headerHolds s)) (illFormed s 0 ps) e in

@@ -100,15 +100,18 @@ counts = (refl, refl, refl)
 abbrev with : (h : ℕ) → List ℕ → List ℕ
 with h parameters = 0x3b ∷ h ∷ 0x10 ∷ 0x21 ∷ unjudged ++ parameters
 
--- what the walk answers: of each type once, of each more than once with an unknown type, of no parameter, and of one of type 0, which falls below none
+-- what the walk answers: of each type once, of each more than once with an unknown type, of two requests, of no parameter, and of one of type 0, which
+-- falls below none
 walks : (walkOf one-each
-    ≡ Complete (record { unknown = 0; esp = seen 1 44 12; set = seen 1 60 24; seq = seen 1 92 4; ack = seen 1 100 4; echo = seen 1 124 8 }))
+    ≡ Complete (record { unknown = 0; esp = seen 1 44 12; set = seen 1 60 24; seq = seen 1 92 4; ack = seen 1 100 4; request = seen 0 0 0; echo = seen 1 124 8 }))
     × (walkOf repeated
-    ≡ Complete (record { unknown = 1; esp = seen 2 44 12; set = seen 2 76 0; seq = seen 2 92 4; ack = seen 2 108 4; echo = seen 2 140 1 }))
+    ≡ Complete (record { unknown = 1; esp = seen 2 44 12; set = seen 2 76 0; seq = seen 2 92 4; ack = seen 2 108 4; request = seen 0 0 0; echo = seen 2 140 1 }))
+    × (walkOf (with 9 (hex "01810004 00000009 03810008 01020304 05060708 00000000 03810001 01000000 03c10000 00000000"))
+    ≡ Complete (record { unknown = 0; esp = seen 0 0 0; set = seen 0 0 0; seq = seen 1 44 4; ack = seen 0 0 0; request = seen 2 52 8; echo = seen 1 76 0 }))
     × (map walkOf (with 4 [] ∷ with 5 (hex "00000000 00000000") ∷ [])
-    ≡ replicate 2 (Complete (record { unknown = 0; esp = seen 0 0 0; set = seen 0 0 0; seq = seen 0 0 0; ack = seen 0 0 0; echo = seen 0 0 0 })))
+    ≡ replicate 2 (Complete (record { unknown = 0; esp = seen 0 0 0; set = seen 0 0 0; seq = seen 0 0 0; ack = seen 0 0 0; request = seen 0 0 0; echo = seen 0 0 0 })))
 unfolding walkOf records some refusedType wrongLength falls occurs
-walks = (refl, refl, refl)
+walks = (refl, refl, refl, refl)
 
 -- "header rule broken, parameter past the end, falling type, wrong L for 65, 385, 449": ESP_INFO of 8 and 16 bytes, SEQ of 0 and 8, ACK of 0 and 6
 refused-walks : map walkOf
@@ -126,7 +129,7 @@ refused-walks : map walkOf
 unfolding walkOf records some refusedType wrongLength falls occurs
 refused-walks = refl
 
--- refusal 4 looks at every parameter: the first, the last, and none; 897 is refused
+-- refusal 4 looks at every parameter: the first, the last, and none; 897 is known
 unknown-types : map refusal4
     (with 6 (hex "00430000 00000000 01810004 00000009")
     ∷ with 6 (hex "01810004 00000009 f0430000 00000000")
@@ -134,6 +137,6 @@ unknown-types : map refusal4
     ∷ with 6 (hex "00420000 00000000 01810004 00000009")
     ∷ with 4 []
     ∷ [])
-    ≡ true ∷ true ∷ true ∷ false ∷ false ∷ []
+    ≡ true ∷ true ∷ false ∷ false ∷ false ∷ []
 unfolding records some refusedType
 unknown-types = refl

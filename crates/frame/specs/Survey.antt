@@ -6,7 +6,7 @@ use lib.Dec.{eqb}
 use Rattle.refusal.specs.Table.{refusal}
 use Rattle.octets.specs.Records.{some}
 use Rattle.frame.specs.Header.{headerHolds}
-use Rattle.parameter.specs.Types.{espInfo, locatorSet, seq, ack, echoResponseSigned, refusedType}
+use Rattle.parameter.specs.Types.{espInfo, locatorSet, seq, ack, echoRequestSigned, echoResponseSigned, refusedType}
 use Rattle.frame.specs.Parameters.{parameters, illFormed}
 use Rattle.parameter.specs.declared.Parameter.{Parameter}
 use Rattle.frame.specs.declared.Occurrence.{Occurrence}
@@ -33,7 +33,7 @@ unfoldable pub occurs : (type : ℕ) → Occurrence → List Parameter → Occur
 occurs type seen [] = seen
 occurs type seen (p ∷ ps) = occurs type (counted type seen (p .kind) (p .body) (p .len)) ps
 
--- "odd type not known, or 897"
+-- "odd type not known"
 abbrev pub refused : Parameter → Bool
 refused p = refusedType (p .kind)
 
@@ -42,7 +42,7 @@ refused p = refusedType (p .kind)
 abbrev pub refusal3 : List ℕ → Bool
 refusal3 s = not (headerHolds s) || illFormed s 0 (parameters s)
 
--- refusal 4: "odd type not known, or 897"
+-- refusal 4: "odd type not known"
 abbrev pub refusal4 : List ℕ → Bool
 refusal4 s = some refused (parameters s)
 
@@ -54,6 +54,7 @@ surveyOf s = record {
   set = occurs locatorSet never (parameters s);
   seq = occurs seq never (parameters s);
   ack = occurs ack never (parameters s);
+  request = occurs echoRequestSigned never (parameters s);
   echo = occurs echoResponseSigned never (parameters s);
 }
 

@@ -1,7 +1,7 @@
 -- What one turn of the walk's loop adds: cited by private functions alone.
 use Prim.Native.Nat.{ℕ}
 use mathlib.Core.Bool.{cond}
-use Rattle.parameter.specs.Types.{espInfo, locatorSet, seq, ack, echoResponseSigned, refusedType}
+use Rattle.parameter.specs.Types.{espInfo, locatorSet, seq, ack, echoRequestSigned, echoResponseSigned, refusedType}
 use Rattle.frame.specs.Survey.{counted}
 use Rattle.frame.specs.declared.Survey.{Survey}
 
@@ -13,5 +13,6 @@ noted seen kind body len = record {
   set = counted locatorSet (seen .set) kind body len;
   seq = counted seq (seen .seq) kind body len;
   ack = counted ack (seen .ack) kind body len;
+  request = counted echoRequestSigned (seen .request) kind body len;
   echo = counted echoResponseSigned (seen .echo) kind body len;
 }

@@ -32,6 +32,7 @@ pub struct Survey {
     pub set: Occurrence,
     pub seq: Occurrence,
     pub ack: Occurrence,
+    pub request: Occurrence,
     pub echo: Occurrence,
 }
 
@@ -90,6 +91,7 @@ fn note(seen: Survey, kind: usize, body: usize, len: usize) -> Survey
     let set = seen.set;
     let seq = seen.seq;
     let ack = seen.ack;
+    let request = seen.request;
     let echo = seen.echo;
     Survey {
         unknown: note_type(seen.unknown, kind),
@@ -97,6 +99,7 @@ fn note(seen: Survey, kind: usize, body: usize, len: usize) -> Survey
         set: count(parameter::LOCATOR_SET, set, kind, body, len),
         seq: count(parameter::SEQ, seq, kind, body, len),
         ack: count(parameter::ACK, ack, kind, body, len),
+        request: count(parameter::ECHO_REQUEST_SIGNED, request, kind, body, len),
         echo: count(parameter::ECHO_RESPONSE_SIGNED, echo, kind, body, len),
     }
 }
@@ -141,6 +144,7 @@ pub fn walk(packet: &[u8]) -> Walked
         set: never,
         seq: never,
         ack: never,
+        request: never,
         echo: never,
     };
     let mut last: usize = 0;

@@ -17,8 +17,8 @@ use Rattle.locator_set.specs.declared.SetVerdict.the-variants.{RefusedSet, Hold
 use Rattle.locator.specs.Locators.{places}
 use Rattle.locator_set.specs.Sets.{listedOf, padded, refusal6, refusedSet, setOf}
 use Rattle.packet.specs.declared.Message.the-variants.{Move}
-use Rattle.packet.specs.Kinds.{isMove, isReply}
-use Rattle.packet.specs.Readings.{fieldsOf, setBytes, refusing, refused, moveOf, replyOf, kindOf, readingOf}
+use Rattle.packet.specs.Kinds.{isMove, isReply, isCheck}
+use Rattle.packet.specs.Readings.{fieldsOf, setBytes, refusing, refused, moveOf, replyOf, checkOf, kindOf, readingOf}
 use Rattle.packet.specs.Parts.{Parts}
 
 -- ---- a Move's set, by the verdict on it
@@ -59,9 +59,13 @@ module _ (s : List ℕ) (seen : Survey) where
   unfolding kindOf
   kind-reply h e = rw (h, e)
 
-  pub kind-neither : isMove seen ≡ false → isReply seen ≡ false → refused 5 ≡ kindOf s seen
+  pub kind-check : isMove seen ≡ false → isReply seen ≡ false → isCheck seen ≡ true → checkOf s seen ≡ kindOf s seen
   unfolding kindOf
-  kind-neither h e = rw (h, e)
+  kind-check h e f = rw (h, e, f)
+
+  pub kind-none : isMove seen ≡ false → isReply seen ≡ false → isCheck seen ≡ false → refused 5 ≡ kindOf s seen
+  unfolding kindOf
+  kind-none h e f = rw (h, e, f)
 
 -- ---- refusals 3 and 4
 flag-set : (b : Bool) → (cond {A = ℕ} b 1 0 ≡ 0 → ⊥) → b ≡ true

@@ -10,27 +10,38 @@ use Rattle.boolean.proofs.Laws.{and-true-left, and-true-right}
 use Rattle.parameter.specs.Types.{espInfo, seq, espInfoLength, seqLength, wrongLength}
 use Rattle.frame.specs.Parameters.{parameters}
 use Rattle.frame.specs.Survey.{never, occurs, surveyOf, refusal3}
+use Rattle.frame.specs.declared.Survey.{Survey}
 use Rattle.frame.proofs.Within.{lies-within, length-right}
 use Rattle.packet.specs.Kinds.{exactlyOne, isMove}
 
+-- each of the three parameters that make a Move occurs once
+pub move-once : (seen : Survey) → isMove seen ≡ true → (seen .esp .times ≡ 1) × (seen .set .times ≡ 1) × (seen .seq .times ≡ 1)
+unfolding isMove
+move-once seen m =
+    let rest = and-true-right (exactlyOne (seen .esp)) _ m in
+    let last = and-true-right (exactlyOne (seen .set)) _ rest in (
+      eqb-true (seen .esp .times) 1 (and-true-left (exactlyOne (seen .esp)) _ m),
+      eqb-true (seen .set .times) 1 (and-true-left (exactlyOne (seen .set)) _ rest),
+      eqb-true (seen .seq .times) 1 (and-true-left (exactlyOne (seen .seq)) _ last),
+    )
+
 module _ (s : List ℕ) (h : refusal3 s ≡ false) where
   -- a type that occurs once, and whose length must be n
-  fits : (type n : ℕ) → ((len : ℕ) → wrongLength type len ≡ false → len ≡ n) → occurs type never (parameters s) .times ≡ 1
-      → occurs type never (parameters s) .body + n ≤ length s
-  fits type n right once =
-      let seen = occurs type never (parameters s) in
-      let long = right (seen .len) (length-right s type h (λ e. omega arith)) in
-      omega (arith, lies-within s type h)
+  right : (type n : ℕ) → ((len : ℕ) → wrongLength type len ≡ false → len ≡ n) → occurs type never (parameters s) .times ≡ 1
+      → occurs type never (parameters s) .len ≡ n
+  right type n must once = must (occurs type never (parameters s) .len) (length-right s type h (λ e. omega arith))
 
   -- the 12 bytes of ESP_INFO and the 4 of SEQ
+  pub move-lengths : isMove (surveyOf s) ≡ true → (surveyOf s .esp .len ≡ espInfoLength) × (surveyOf s .seq .len ≡ seqLength)
+  unfolding wrongLength
+  move-lengths m =
+      let once = move-once (surveyOf s) m in (
+        right espInfo espInfoLength (λ len e. eqb-true len espInfoLength (not-false _ e)) (once .0),
+        right seq seqLength (λ len e. eqb-true len seqLength (not-false _ e)) (once .2),
+      )
+
   pub move-fits : isMove (surveyOf s) ≡ true
       → (surveyOf s .esp .body + espInfoLength ≤ length s) × (surveyOf s .seq .body + seqLength ≤ length s)
-  unfolding isMove wrongLength
   move-fits m =
-      let rest = and-true-right (exactlyOne (surveyOf s .esp)) _ m in
-      let last = and-true-right (exactlyOne (surveyOf s .set)) _ rest in
-      let esp-once = eqb-true (surveyOf s .esp .times) 1 (and-true-left (exactlyOne (surveyOf s .esp)) _ m) in
-      let seq-once = eqb-true (surveyOf s .seq .times) 1 (and-true-left (exactlyOne (surveyOf s .seq)) _ last) in (
-        fits espInfo espInfoLength (λ len e. eqb-true len espInfoLength (not-false _ e)) esp-once,
-        fits seq seqLength (λ len e. eqb-true len seqLength (not-false _ e)) seq-once,
-      )
+      let long = move-lengths m in
+      (omega (arith, long .0, lies-within s espInfo h), omega (arith, long .1, lies-within s seq h))

@@ -1,3 +1,4 @@
 pub mod Choices
 pub mod Fields
 pub mod Listed
+pub mod Opaque

@@ -1,4 +1,4 @@
--- Worked examples, computed from the definitions: a packet for each condition of refusals 3 to 6, accepted Moves and Replies.
+-- Worked examples, computed from the definitions: a packet for each condition of refusals 3 to 6, accepted Moves, Replies and Checks.
 use Prim.Native.Nat.{ℕ, zero, suc, _+_, _/_}
 use mathlib.Core.Path.{_≡_, refl}
 use mathlib.Core.Bool.{true, false}
@@ -16,9 +16,9 @@ use Rattle.locator.specs.Locators.{illForm}
 use Rattle.locator_set.specs.Sets.{twice, marks, padded}
 use Rattle.packet.specs.declared.EchoResponse.the-variants.{Absent, Nonce, OtherLength}
 use Rattle.packet.specs.declared.Message.{Message}
-use Rattle.packet.specs.declared.Message.the-variants.{Refused, Move, Reply}
-use Rattle.packet.specs.Kinds.{isMove, isReply}
-use Rattle.packet.specs.Readings.{kindOf, readingOf}
+use Rattle.packet.specs.declared.Message.the-variants.{Refused, Move, Reply, PeerCheck}
+use Rattle.packet.specs.Kinds.{isMove, isReply, isCheck}
+use Rattle.packet.specs.Readings.{opaqueOf, kindOf, readingOf}
 
 -- ---- packets
 -- a header and what follows it
@@ -36,6 +36,10 @@ id = parameterBytes seq (0 ∷ 0 ∷ 0 ∷ 9 ∷ [])
 -- an echo response with a nonce of 8 bytes
 abbrev echo : List ℕ
 echo = parameterBytes echoResponseSigned (1 ∷ 2 ∷ 3 ∷ 4 ∷ 5 ∷ 6 ∷ 7 ∷ 8 ∷ [])
+
+-- a request to echo nine opaque bytes
+abbrev request : List ℕ
+request = parameterBytes echoRequestSigned (replicate 9 7)
 
 -- a locator of 0x20 .. 0x20 and a last byte, by its head: traffic type, locator type, length, P, lifetime
 abbrev locator : (traffic kind units p lifetime last : ℕ) → List ℕ
@@ -102,9 +106,9 @@ table =
     ∷ (packetOf (parameterBytes ack (replicate 6 0)) gives Refused (refusal 3))
     -- all parameters are judged by refusal 3 before any is by refusal 4
     ∷ (packetOf (parameterBytes 67 [] ++ parameterBytes ack []) gives Refused (refusal 3))
-    -- refusal 4: an odd type not known, or 897
+    -- refusal 4: an odd type not known
     ∷ (packetOf (parameterBytes 67 []) gives Refused (refusal 4))
-    ∷ (packetOf (parameterBytes echoRequestSigned (replicate 8 0)) gives Refused (refusal 4))
+    ∷ (packetOf (id ++ (request ++ parameterBytes 899 [])) gives Refused (refusal 4))
     -- refusal 5: no parameter, an even type alone
     ∷ (packetOf [] gives Refused (refusal 5))
     ∷ (packetOf (parameterBytes 66 []) gives Refused (refusal 5))
@@ -125,6 +129,19 @@ table =
     ∷ (packetOf (esp ++ (set ++ (id ++ id))) gives Refused (refusal 5))
     ∷ (packetOf (esp ++ (set ++ (id ++ (acked ++ acked)))) gives Refused (refusal 5))
     ∷ (packetOf (esp ++ (set ++ (id ++ (echo ++ echo)))) gives Refused (refusal 5))
+    -- "a Move or Reply holds no 897"
+    ∷ (packetOf (esp ++ (set ++ (id ++ request))) gives Refused (refusal 5))
+    ∷ (packetOf (request ++ echo) gives Refused (refusal 5))
+    -- "a Check (SEQ and one 897, at most one each of ESP_INFO and ACK, nothing else known but 705, MAC and signature)": no SEQ or two, two 897, two ESP_INFO,
+    -- two ACK, LOCATOR_SET, an echo response
+    ∷ (packetOf request gives Refused (refusal 5))
+    ∷ (packetOf (id ++ (id ++ request)) gives Refused (refusal 5))
+    ∷ (packetOf id gives Refused (refusal 5))
+    ∷ (packetOf (id ++ (request ++ request)) gives Refused (refusal 5))
+    ∷ (packetOf (esp ++ (esp ++ (id ++ request))) gives Refused (refusal 5))
+    ∷ (packetOf (id ++ (acked ++ (acked ++ request))) gives Refused (refusal 5))
+    ∷ (packetOf (set ++ (id ++ request)) gives Refused (refusal 5))
+    ∷ (packetOf (id ++ (request ++ echo)) gives Refused (refusal 5))
     -- refusal 6, by each of its conditions
     ∷ (moveOf [] gives Refused (refusal 6))
     ∷ (moveOf (several 9) gives Refused (refusal 6))
@@ -146,11 +163,16 @@ table =
     ∷ (packetOf (parameterBytes echoResponseSigned (replicate 7 1)) gives Reply OtherLength)
     ∷ (packetOf (parameterBytes echoResponseSigned (replicate 9 1)) gives Reply OtherLength)
     ∷ (packetOf (parameterBytes echoResponseSigned []) gives Reply OtherLength)
+    ∷ (packetOf (id ++ request) gives PeerCheck (record { id = 9; body = 52; len = 9 }))
+    ∷ (packetOf (esp ++ (id ++ request)) gives PeerCheck (record { id = 9; body = 68; len = 9 }))
+    ∷ (packetOf (id ++ (acked ++ request)) gives PeerCheck (record { id = 9; body = 60; len = 9 }))
+    ∷ (packetOf (esp ++ (id ++ (acked ++ parameterBytes echoRequestSigned []))) gives PeerCheck (record { id = 9; body = 76; len = 0 }))
+    ∷ (packetOf (id ++ parameterBytes echoRequestSigned (replicate 65 0)) gives PeerCheck (record { id = 9; body = 52; len = 65 }))
     ∷ []
 
 -- every case agrees with the definitions
 agrees : map (λ (case : Case). readingOf (case .packet) .message) table ≡ map (λ (case : Case). case .says) table
-unfolding several records some legal refusedType wrongLength parameterBytes bytesOf falls occurs illForm twice marks isMove isReply kindOf readingOf
+unfolding several records some legal refusedType wrongLength parameterBytes bytesOf falls occurs illForm twice marks isMove isReply isCheck kindOf readingOf
 agrees = refl
 
 -- a whole reading: a Move with an echo response and a second locator of type 1, and what it lists
@@ -179,3 +201,10 @@ whole : readingOf (packetOf (esp ++ (parameterBytes locatorSet (plain 1 ++ bound
 }
 unfolding records some legal refusedType wrongLength parameterBytes bytesOf falls occurs illForm twice marks isMove isReply kindOf readingOf
 whole = refl
+
+-- the opaque bytes: those at the place, as far as the packet goes
+opaque : map (opaqueOf (1 ∷ 2 ∷ 3 ∷ 4 ∷ 5 ∷ []))
+    (record { id = 9; body = 1; len = 3 } ∷ record { id = 9; body = 5; len = 0 } ∷ record { id = 9; body = 3; len = 4 } ∷ record { id = 9; body = 6; len = 1 } ∷ [])
+    ≡ (2 ∷ 3 ∷ 4 ∷ []) ∷ [] ∷ (4 ∷ 5 ∷ []) ∷ [] ∷ []
+unfolding opaqueOf
+opaque = refl

@@ -16,8 +16,8 @@ use Rattle.locator.specs.Locators.{illForm}
 use Rattle.locator_set.specs.Sets.{twice, marks}
 use Rattle.locator_set.specs.Examples.{nothing}
 use Rattle.packet.specs.declared.EchoResponse.the-variants.{Nonce}
-use Rattle.packet.specs.declared.Message.the-variants.{Refused, Move, Reply}
-use Rattle.packet.specs.Kinds.{isMove, isReply}
+use Rattle.packet.specs.declared.Message.the-variants.{Refused, Move, Reply, PeerCheck}
+use Rattle.packet.specs.Kinds.{isMove, isReply, isCheck}
 use Rattle.packet.specs.Readings.{kindOf, readingOf}
 
 -- the header: next header 59, header length, packet type 16 (UPDATE), version 2 and the fixed bit 1; checksum and controls; the sender's HIT; the
@@ -90,8 +90,14 @@ whole-reply : readingOf (header "3b0d1021" ++ (ack ++ (hostId ++ (echoResponse +
 unfolding records some refusedType wrongLength falls occurs isMove isReply kindOf readingOf
 whole-reply = refl
 
--- "ECHO_REQUEST_SIGNED 897 (written only)": the same Reply with it earns refusal 4
+-- a whole Check, with each parameter that it may have, HOST_ID, MAC and signature among them
+whole-check : readingOf (header "3b101021" ++ (espInfo ++ (seq ++ (ack ++ (hostId ++ (echoRequest ++ (mac ++ signature)))))))
+    ≡ record { message = PeerCheck (record { id = 0x00010009; body = 100; len = 8 }); listed = replicate 8 nothing }
+unfolding records some refusedType wrongLength falls occurs isMove isReply isCheck kindOf readingOf
+whole-check = refl
+
+-- "a Move or Reply holds no 897": the same Reply with it earns refusal 5
 request-received : readingOf (header "3b0f1021" ++ (ack ++ (hostId ++ (echoRequest ++ (echoResponse ++ (mac ++ signature))))))
-    ≡ record { message = Refused (refusal 4); listed = replicate 8 nothing }
-unfolding records some refusedType wrongLength falls occurs isMove isReply kindOf readingOf
+    ≡ record { message = Refused (refusal 5); listed = replicate 8 nothing }
+unfolding records some refusedType wrongLength falls occurs isMove isReply isCheck kindOf readingOf
 request-received = refl

@@ -1,4 +1,4 @@
--- What is read of a packet: the first of the refusals 3 to 6 that it earns, or a Move or a Reply with all that later rules ask of it.
+-- What is read of a packet: the first of the refusals 3 to 6 that it earns, or a Move, a Reply or a Check with all that later rules ask of it.
 use Prim.Native.Nat.{ℕ, _+_}
 use mathlib.Core.Bool.{cond}
 use mathlib.Core.List.{List}
@@ -13,11 +13,12 @@ use Rattle.frame.specs.declared.Occurrence.{Occurrence}
 use Rattle.frame.specs.declared.Survey.{Survey}
 use Rattle.locator.specs.Locators.{places}
 use Rattle.locator_set.specs.Sets.{blanks, listedOf, padded, refusal6}
-use Rattle.packet.specs.Kinds.{isMove, isReply}
+use Rattle.packet.specs.Kinds.{isMove, isReply, isCheck}
 use Rattle.packet.specs.declared.EchoResponse.{EchoResponse}
 use Rattle.packet.specs.declared.EchoResponse.the-variants.{Absent, Nonce, OtherLength}
 use Rattle.packet.specs.declared.MoveFields.{MoveFields}
-use Rattle.packet.specs.declared.Message.the-variants.{Refused, Move, Reply}
+use Rattle.packet.specs.declared.CheckFields.{CheckFields}
+use Rattle.packet.specs.declared.Message.the-variants.{Refused, Move, Reply, PeerCheck}
 use Rattle.packet.specs.declared.Reading.{Reading}
 
 -- "An echo response of 8 bytes": its nonce, "as one 64-bit number". One of another length is still an echo response, and matches nothing
@@ -57,9 +58,21 @@ moveOf s seen =
 abbrev pub replyOf : List ℕ → Survey → Reading
 replyOf s seen = record { message = Reply (echoOf s (seen .echo)); listed = blanks }
 
--- refusal 5, "neither Move nor Reply", or what is read of the one or the other
+-- a Check: its Update ID, and where its opaque bytes stand. It lists no locator, and its ESP_INFO "is not judged further"
+abbrev pub checkOf : List ℕ → Survey → Reading
+checkOf s seen = record {
+  message = PeerCheck (record { id = numberAt s (seen .seq .body) 4; body = seen .request .body; len = seen .request .len });
+  listed = blanks;
+}
+
+-- the opaque bytes of a Check
+unfoldable pub opaqueOf : List ℕ → CheckFields → List ℕ
+opaqueOf s c = take (c .len) (drop (c .body) s)
+
+-- refusal 5, none of the three kinds, or what is read of the one that it is
 unfoldable pub kindOf : List ℕ → Survey → Reading
-kindOf s seen = cond (isMove seen) (moveOf s seen) (cond (isReply seen) (replyOf s seen) (refused 5))
+kindOf s seen =
+    cond (isMove seen) (moveOf s seen) (cond (isReply seen) (replyOf s seen) (cond (isCheck seen) (checkOf s seen) (refused 5)))
 
 -- refusals 3 to 6 are tried in this order
 unfoldable pub readingOf : List ℕ → Reading

@@ -1,4 +1,4 @@
-// What a packet says: refusals 3 to 6, or a Move or a Reply with all that the layers above ask of it, so that none of them reads packet bytes.
+// What a packet says: refusals 3 to 6, or a Move, a Reply or a Check with all that the layers above ask of it, so that none of them reads packet bytes.
 // Depends on frame, parameter, locator_set, locator, octets, boolean, refusal.
 use frame::Occurrence;
 use frame::Survey;
@@ -10,8 +10,8 @@ use refusal::Refusal;
 ghost use mathlib.Core.Path.{_≡_};
 ghost use Prim.Native.Nat.{_+_, _≤_};
 ghost use lib.ListN.{length};
-ghost use Rattle.packet.specs.Kinds.{isMove, isReply};
-ghost use Rattle.packet.specs.Readings.{echoOf, fieldsOf, refusing, moveOf, kindOf, readingOf};
+ghost use Rattle.packet.specs.Kinds.{isMove, isReply, isCheck};
+ghost use Rattle.packet.specs.Readings.{echoOf, fieldsOf, refusing, moveOf, checkOf, opaqueOf, kindOf, readingOf};
 ghost use Rattle.packet.specs.Parts.{Parts};
 
 // An echo response: none, the nonce of one that is 8 bytes long, or one of another length, which matches no nonce.
@@ -31,11 +31,19 @@ pub struct MoveFields {
     pub echo: EchoResponse,
 }
 
-// Move and Reply are document 01's terms for the two kinds of message.
+// What a Check says: its Update ID, and where its opaque bytes stand in the packet and how many they are.
+pub struct CheckFields {
+    pub id: u32,
+    pub body: usize,
+    pub len: usize,
+}
+
+// Move and Reply are document 01's terms for kinds of message, and Check is order 1's: the peer's check of one of our addresses.
 pub enum Message {
     Refused(Refusal),
     Move(MoveFields),
     Reply(EchoResponse),
+    PeerCheck(CheckFields),
 }
 
 // What is read of a packet. The locators that a Move lists come first in the array, in order, and blanks after them; else all are blank.
@@ -121,7 +129,10 @@ fn is_move(seen: Survey) -> bool
             seen.set.times == 1,
             boolean::both(
                 seen.seq.times == 1,
-                boolean::both(seen.echo.times < 2, seen.ack.times < 2),
+                boolean::both(
+                    seen.echo.times < 2,
+                    boolean::both(seen.ack.times < 2, seen.request.times == 0),
+                ),
             ),
         ),
     )
@@ -137,13 +148,69 @@ fn is_reply(seen: Survey) -> bool
             seen.esp.times == 0,
             boolean::both(
                 seen.set.times == 0,
-                boolean::both(seen.seq.times == 0, seen.ack.times < 2),
+                boolean::both(
+                    seen.seq.times == 0,
+                    boolean::both(seen.request.times == 0, seen.ack.times < 2),
+                ),
             ),
         ),
     )
 }
 
-// A Move, a Reply, or refusal 5.
+// The parameters are those of a Check.
+fn is_check(seen: Survey) -> bool
+    ensures { λ r. ⌜ r ≡ isCheck seen ⌝ }
+{
+    boolean::both(
+        seen.seq.times == 1,
+        boolean::both(
+            seen.request.times == 1,
+            boolean::both(
+                seen.esp.times < 2,
+                boolean::both(
+                    seen.ack.times < 2,
+                    boolean::both(seen.set.times == 0, seen.echo.times == 0),
+                ),
+            ),
+        ),
+    )
+}
+
+// What a Check says.
+fn read_check(packet: &[u8], seen: Survey) -> Reading
+    ensures { λ r. ⌜ r ≡ checkOf (now (packet .entry)) seen ⌝ }
+{
+    let seq = seen.seq;
+    let request = seen.request;
+    let listed = locator_set::no_locators();
+    let id = octets::u32_at(packet, seq.body);
+    Reading {
+        message: Message::PeerCheck(CheckFields {
+            id,
+            body: request.body,
+            len: request.len,
+        }),
+        listed,
+    }
+}
+
+// The packet's own part that holds a Check's opaque bytes, as far as the packet goes.
+pub fn opaque_part<'p>(packet: &'p [u8], c: CheckFields) -> &'p [u8]
+    ensures { λ r. ⌜ now r ≡ opaqueOf (now (packet .entry)) c ⌝ }
+{
+    if packet.len() < c.body {
+        return &packet[0..0];
+    }
+    let start = c.body;
+    let left = packet.len() - start;
+    if left < c.len {
+        return &packet[start..packet.len()];
+    }
+    let end = start + c.len;
+    &packet[start..end]
+}
+
+// A Move, a Reply, a Check, or refusal 5.
 fn read_kind(packet: &[u8], seen: Survey) -> Reading
     requires { ⌜ Parts (now packet) seen ⌝ }
     ensures { λ r. ⌜ r ≡ kindOf (now (packet .entry)) seen ⌝ }
@@ -159,6 +226,9 @@ fn read_kind(packet: &[u8], seen: Survey) -> Reading
             message: Message::Reply(echo),
             listed,
         };
+    }
+    if is_check(seen) {
+        return read_check(packet, seen);
     }
     refuse(Refusal::UnknownMessage)
 }

@@ -23,11 +23,11 @@ numbers : (espInfo ∷ locatorSet ∷ seq ∷ ack ∷ hostId ∷ echoRequestSign
     × (nonceSize ≡ 8)
 numbers = (refl, refl)
 
--- "Another even type is stepped over; another odd type, or 897, is refused.": those that are known, their even neighbours and others, their odd
--- neighbours and others with 897
-refused-types : (map refusedType (65 ∷ 193 ∷ 385 ∷ 449 ∷ 705 ∷ 961 ∷ 61505 ∷ 61697 ∷ []) ≡ replicate 8 false)
+-- "Another even type is stepped over; another odd type .. is refused.": those that are known, 897 among them since order 1, their even neighbours and
+-- others, their odd neighbours and others
+refused-types : (map refusedType (65 ∷ 193 ∷ 385 ∷ 449 ∷ 705 ∷ 897 ∷ 961 ∷ 61505 ∷ 61697 ∷ []) ≡ replicate 9 false)
     × (map refusedType (0 ∷ 64 ∷ 66 ∷ 192 ∷ 194 ∷ 386 ∷ 450 ∷ 706 ∷ 896 ∷ 898 ∷ 962 ∷ 61506 ∷ 61698 ∷ 65534 ∷ []) ≡ replicate 14 false)
-    × (map refusedType (1 ∷ 63 ∷ 67 ∷ 191 ∷ 195 ∷ 387 ∷ 451 ∷ 707 ∷ 895 ∷ 897 ∷ 899 ∷ 963 ∷ 61507 ∷ 61699 ∷ 65535 ∷ []) ≡ replicate 15 true)
+    × (map refusedType (1 ∷ 63 ∷ 67 ∷ 191 ∷ 195 ∷ 387 ∷ 451 ∷ 707 ∷ 895 ∷ 899 ∷ 963 ∷ 61507 ∷ 61699 ∷ 65535 ∷ []) ≡ replicate 14 true)
 unfolding refusedType some
 refused-types = (refl, refl, refl)
 

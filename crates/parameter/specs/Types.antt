@@ -33,13 +33,13 @@ hipMac = 61505
 abbrev pub hipSignature : ℕ
 hipSignature = 61697
 
--- the types that are known and may be received: ECHO_REQUEST_SIGNED is "written only"
+-- the types that are known and may be received; order 1: "type 897 becomes known"
 abbrev pub received : List ℕ
-received = espInfo ∷ locatorSet ∷ seq ∷ ack ∷ hostId ∷ echoResponseSigned ∷ hipMac ∷ hipSignature ∷ []
+received = espInfo ∷ locatorSet ∷ seq ∷ ack ∷ hostId ∷ echoRequestSigned ∷ echoResponseSigned ∷ hipMac ∷ hipSignature ∷ []
 
--- "Another even type is stepped over; another odd type, or 897, is refused."
+-- "Another even type is stepped over; another odd type .. is refused."
 unfoldable pub refusedType : ℕ → Bool
-refusedType kind = eqb kind echoRequestSigned || (eqb (kind % 2) 1 && not (some (eqb kind) received))
+refusedType kind = eqb (kind % 2) 1 && not (some (eqb kind) received)
 
 -- "ESP_INFO 65 has L = 12"
 abbrev pub espInfoLength : ℕ

@@ -61,10 +61,10 @@ pub fn refused_type(kind: usize) -> bool
         | SEQ
         | ACK
         | HOST_ID
+        | ECHO_REQUEST_SIGNED
         | ECHO_RESPONSE_SIGNED
         | HIP_MAC
         | HIP_SIGNATURE => false,
-        ECHO_REQUEST_SIGNED => true,
         _ => kind % 2 == 1,
     }
 }

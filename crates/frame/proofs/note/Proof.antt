@@ -20,14 +20,18 @@ count-requires-4 c κs = tt
 count-requires-5 : tie.Need-count-requires-5
 count-requires-5 c κs = tt
 
+count-requires-6 : tie.Need-count-requires-6
+count-requires-6 c κs = tt
+
 returns : tie.Need-returns
 returns c = λ i. record {
-  unknown = c .before .before .before .before .before .note-type .ensures i;
-  esp = c .before .before .before .before .count .ensures i;
-  set = c .before .before .before .count2 .ensures i;
-  seq = c .before .before .count3 .ensures i;
-  ack = c .before .count4 .ensures i;
-  echo = c .count5 .ensures i;
+  unknown = c .before .before .before .before .before .before .note-type .ensures i;
+  esp = c .before .before .before .before .before .count .ensures i;
+  set = c .before .before .before .before .count2 .ensures i;
+  seq = c .before .before .before .count3 .ensures i;
+  ack = c .before .before .count4 .ensures i;
+  request = c .before .count5 .ensures i;
+  echo = c .count6 .ensures i;
 }
 
 pub note-spec : {M : Type 1} → statement M
@@ -40,4 +44,5 @@ note-spec =
     count-requires-3
     count-requires-4
     count-requires-5
+    count-requires-6
     returns)

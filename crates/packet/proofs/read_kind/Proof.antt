@@ -1,7 +1,7 @@
 -- `packet::read_kind` meets its contract. Assumes nothing.
 use mathlib.Core.Path.{sym, _∙_}
 use Rattle.packet.specs.declared.Message.the-variants.{Reply}
-use Rattle.packet.proofs.Choices.{kind-move, kind-reply, kind-neither}
+use Rattle.packet.proofs.Choices.{kind-move, kind-reply, kind-check, kind-none}
 use borrow.Author.Needs.{needs}
 use Rattle.packet.proofs.read_kind.Statement.{statement}
 use Rattle.packet.proofs.read_kind.Tie as tie
@@ -30,14 +30,28 @@ returns-2 c =
     (λ i. record { message = Reply (c .before .echo-of .ensures i); listed = c .no-locators .ensures i })
     ∙ kind-reply (a .packet .now) (a .seen) (sym (c .before .before .before .before .before .before .is-move .ensures) ∙ c .before .before .before .before .before .if1 .left) (sym (c .before .before .before .before .is-reply .ensures) ∙ c .before .before .before .if2 .taken)
 
-refuse-requires : tie.Need-refuse-requires
-refuse-requires c κs = search needs
+is-check-requires : tie.Need-is-check-requires
+is-check-requires c κs = search needs
+
+read-check-requires : tie.Need-read-check-requires
+read-check-requires c κs = search needs
 
 returns-3 : tie.Need-returns-3
 returns-3 c =
-    let a = c .before .before .before .before .before .before .args in
+    let kinds = c .before .before .before .before in
+    let a = kinds .before .before .before .before .args in
+    c .read-check .ensures
+    ∙ kind-check (a .packet .now) (a .seen) (sym (kinds .before .before .is-move .ensures) ∙ kinds .before .if1 .left) (sym (kinds .is-reply .ensures) ∙ c .before .before .before .if2 .left) (sym (c .before .before .is-check .ensures) ∙ c .before .if3 .taken)
+
+refuse-requires : tie.Need-refuse-requires
+refuse-requires c κs = search needs
+
+returns-4 : tie.Need-returns-4
+returns-4 c =
+    let kinds = c .before .before .before .before in
+    let a = kinds .before .before .before .before .args in
     c .refuse .ensures
-    ∙ kind-neither (a .packet .now) (a .seen) (sym (c .before .before .before .before .is-move .ensures) ∙ c .before .before .before .if1 .left) (sym (c .before .before .is-reply .ensures) ∙ c .before .if2 .left)
+    ∙ kind-none (a .packet .now) (a .seen) (sym (kinds .before .before .is-move .ensures) ∙ kinds .before .if1 .left) (sym (kinds .is-reply .ensures) ∙ c .before .before .before .if2 .left) (sym (c .before .before .is-check .ensures) ∙ c .before .if3 .left)
 
 pub read-kind-spec : {M : Type 1} → statement M
 read-kind-spec =
@@ -50,5 +64,8 @@ read-kind-spec =
     echo-of-requires
     no-locators-requires
     returns-2
+    is-check-requires
+    read-check-requires
+    returns-3
     refuse-requires
-    returns-3)
+    returns-4)
