@@ -2,15 +2,13 @@
 // and boolean.
 use address::Address;
 use locator::ListedLocator;
+use locator::SPI_TYPE;
 use locator_set::SET_LIMIT;
 ghost use mathlib.Core.Path.{_≡_};
 ghost use lib.ListN.{take};
 ghost use Rattle.octets.specs.Records.{some};
 ghost use Rattle.readdress.specs.Steps.{isListed};
 ghost use Rattle.update.specs.Refusals.{otherSpi};
-
-// The locator type that has an SPI.
-pub const SPI_TYPE: u8 = 1;
 
 // One of them has the address.
 pub fn is_listed(listed: [ListedLocator; SET_LIMIT], count: usize, address: Address) -> bool

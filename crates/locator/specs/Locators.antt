@@ -22,6 +22,10 @@ headSize = 8
 abbrev pub unit : ℕ
 unit = 4
 
+-- the locator type that has an SPI
+abbrev pub spiType : ℕ
+spiType = 1
+
 -- "traffic type (0 both, 1 signalling, 2 data)"
 abbrev pub trafficAt : List ℕ → ℕ → ℕ
 trafficAt s at = getD s at 0

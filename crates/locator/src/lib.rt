@@ -13,6 +13,9 @@ const UNIT: usize = 4;
 
 const LEAST_SIZE: usize = 24;
 
+// The locator type that has an SPI.
+pub const SPI_TYPE: u8 = 1;
+
 // A locator as a set lists it. `kind` is its locator type, and `spi` the SPI of a type 1 locator, 0 for type 0.
 pub struct ListedLocator {
     pub address: Address,

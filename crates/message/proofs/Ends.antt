@@ -7,19 +7,21 @@ use lib.ListN.{length, take}
 use Rattle.refusal.specs.declared.Refusal.{Refusal}
 use Rattle.packet.specs.declared.EchoResponse.{EchoResponse}
 use Rattle.packet.specs.declared.MoveFields.{MoveFields}
-use Rattle.packet.specs.declared.Message.the-variants.{Refused, Move, Reply}
+use Rattle.packet.specs.declared.CheckFields.{CheckFields}
+use Rattle.packet.specs.declared.Message.the-variants.{Refused, Move, Reply, PeerCheck}
 use Rattle.packet.specs.declared.Reading.{Reading}
-use Rattle.packet.specs.Readings.{readingOf}
+use Rattle.packet.specs.Readings.{readingOf, opaqueOf}
 use Rattle.reply_form.specs.Replies.{overwritten}
 use Rattle.association.specs.declared.Association.{Association}
 use Rattle.association.specs.Form.{refusal0}
 use Rattle.association.proofs.Sound.{sound}
 use Rattle.update.specs.Refusals.{refusal1, refusal2}
 use Rattle.update.specs.declared.MessageAnswer.{MessageAnswer}
-use Rattle.update.specs.Messages.{Handled, declined, refused, handleReply, handleMove, handleReading, handled, answerOf, messageOf, bufferAfter}
+use Rattle.update.specs.Messages.{Handled, declined, refused, handleReply, handleMove, handleCheck, handleReading, handled, answerOf, messageOf, bufferAfter}
 use Rattle.update.proofs.Cases.{reply-ends}
 use Rattle.accept.specs.Room.{guarded}
 use Rattle.accept.proofs.Written.{lets-pass}
+use Rattle.respond.specs.Room.{roomy}
 
 -- "A Reply writes nothing."
 pub reply-unwritten : (a : Association) (echo : EchoResponse) (b : List ℕ) → b ≡ overwritten (handleReply a echo .reply) b
@@ -75,11 +77,11 @@ module _ (x : Lent) where
     pub read : r ≡ readingOf (x .packet)
 
   -- then the reading decides
-  past-two : (h : Handled) (r : Reading) → Read r → h ≡ handleReading (x .association) r (x .nonces) → h ≡ handledOf x
+  past-two : (h : Handled) (r : Reading) → Read r → h ≡ handleReading (x .association) (x .packet) r (x .nonces) → h ≡ handledOf x
   unfolding handled
   past-two h r f g = g ∙ rw (f .read, f .sound, f .room, f .marked)
 
-  -- it is one of refusals 3 to 6, a Reply, or a Move
+  -- it is one of refusals 3 to 6, a Reply, a Move, or a Check
   module _ (r : Reading) (f : Read r) where
     pub read-refused : (why : Refusal) → r .message ≡ Refused why → declined why (x .association) ≡ handledOf x
     read-refused why e = past-two (declined why (x .association)) r f (rw e)
@@ -93,3 +95,10 @@ module _ (x : Lent) where
     read-move m e =
         let h = handleMove (x .association) m (take (m .count) (r .listed)) (x .nonces) in
         lets-pass (x .association) h (x .buffer) (sound (x .association) (f .sound) .time) (f .room) ∙ past-two h r f (rw e)
+
+    -- what `respond` tries for itself is passed
+    pub read-check : (c : CheckFields) (opaque : List ℕ) → r .message ≡ PeerCheck c → opaque ≡ opaqueOf (x .packet) c →
+        roomy (length (x .buffer)) (x .association) (handleCheck (x .association) (c .id) opaque) ≡ handledOf x
+    read-check c opaque e g =
+        let h = handleCheck (x .association) (c .id) (opaqueOf (x .packet) c) in
+        rw (f .room) (ap (handleCheck (x .association) (c .id)) g ∙ past-two h r f (rw e))

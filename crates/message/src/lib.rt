@@ -1,5 +1,6 @@
-// The message call: refusals 0 to 6 in their order, and then what `handle` makes of a Move and `answer` of a Reply. Depends on handle, answer, judge, update,
-// association, packet and refusal. The packet is read once, by `packet`; nothing here or below reads its bytes again.
+// The message call: refusals 0 to 6 in their order, and then what `handle` makes of a Move, `answer` of a Reply and `respond` of a Check. Depends on handle,
+// respond, answer, judge, update, association, packet and refusal. The packet is read once, by `packet`; nothing here or below reads its bytes again, but
+// that a Check's opaque bytes are copied into the reply.
 use association::Association;
 use packet::Message;
 use refusal::Refusal;
@@ -40,5 +41,9 @@ pub fn receive(
         Message::Refused(why) => answer::declined(a, why),
         Message::Reply(echo) => answer::handle_reply(a, echo),
         Message::Move(m) => handle::handle_move(a, m, listed, nonces, buffer),
+        Message::PeerCheck(c) => {
+            let opaque = packet::opaque_part(packet, c);
+            respond::handle_check(a, c.id, opaque, buffer)
+        }
     }
 }

@@ -11,7 +11,7 @@ use Rattle.parameter.specs.Types.{espInfo, seq, ack, echoRequestSigned}
 use Rattle.parameter.specs.Written.{parameterBytes}
 use Rattle.writer.specs.Writes.{writtenAt}
 use Rattle.writer.proofs.Writes.{written-beyond, written-more, written-first, parts-written}
-use Rattle.reply_form.specs.Replies.{espInfoBytes, seqBytes, ackBytes, echoRequestBytes, checkBytes, checksBytes, overwritten}
+use Rattle.reply_form.specs.Replies.{espInfoWith, espInfoBytes, seqBytes, ackBytes, echoRequestBytes, checkBytes, checksBytes, overwritten}
 use Rattle.reply_form.proofs.Sizes.{number-length, esp-info-length, check-length, checks-length}
 
 -- a part that does not fit is not written
@@ -37,12 +37,12 @@ unfolding parameterBytes bytesOf
 number-written kind value at b b1 b2 h p1 p2 =
     parts-written at (headBytes kind 4) (bytesOf 4 value ∷ []) (parameterBytes kind (bytesOf 4 value)) b b2 refl h (rw (p2, p1))
 
-pub esp-info-written : (inbound at : ℕ) (b b1 b2 b3 b4 b5 : List ℕ) → at + 16 ≤ length b → b1 ≡ writtenAt at (headBytes espInfo 12) b
-    → b2 ≡ writtenAt (at + 4) (bytesOf 2 0) b1 → b3 ≡ writtenAt (at + 6) (bytesOf 2 0) b2 → b4 ≡ writtenAt (at + 8) (bytesOf 4 inbound) b3
-    → b5 ≡ writtenAt (at + 12) (bytesOf 4 inbound) b4 → b5 ≡ writtenAt at (espInfoBytes inbound) b
+pub esp-info-written : (keymat old new at : ℕ) (b b1 b2 b3 b4 b5 : List ℕ) → at + 16 ≤ length b → b1 ≡ writtenAt at (headBytes espInfo 12) b
+    → b2 ≡ writtenAt (at + 4) (bytesOf 2 0) b1 → b3 ≡ writtenAt (at + 6) (bytesOf 2 keymat) b2 → b4 ≡ writtenAt (at + 8) (bytesOf 4 old) b3
+    → b5 ≡ writtenAt (at + 12) (bytesOf 4 new) b4 → b5 ≡ writtenAt at (espInfoWith keymat old new) b
 unfolding parameterBytes bytesOf
-esp-info-written inbound at b b1 b2 b3 b4 b5 h p1 p2 p3 p4 p5 =
-    parts-written at (headBytes espInfo 12) (bytesOf 2 0 ∷ bytesOf 2 0 ∷ bytesOf 4 inbound ∷ bytesOf 4 inbound ∷ []) (espInfoBytes inbound) b b5 refl h
+esp-info-written keymat old new at b b1 b2 b3 b4 b5 h p1 p2 p3 p4 p5 =
+    parts-written at (headBytes espInfo 12) (bytesOf 2 0 ∷ bytesOf 2 keymat ∷ bytesOf 4 old ∷ bytesOf 4 new ∷ []) (espInfoWith keymat old new) b b5 refl h
     (rw (p5, p4, p3, p2, p1))
 
 pub echo-request-written : (nonce at : ℕ) (b b1 b2 b3 : List ℕ) → at + 16 ≤ length b → b1 ≡ writtenAt at (headBytes echoRequestSigned 8) b
@@ -59,7 +59,7 @@ check-written inbound peer id nonce at b b1 b2 b3 b4 h p1 p2 p3 p4 =
     parts-written at (espInfoBytes inbound) (seqBytes id ∷ ackBytes peer ∷ echoRequestBytes nonce ∷ []) (checkBytes inbound peer id nonce) b b4
     (rw (append-nil (echoRequestBytes nonce)))
     (omega arith)
-    (p4 ∙ rw (p3, p2, p1, esp-info-length inbound, number-length seq id, number-length ack peer))
+    (p4 ∙ rw (p3, p2, p1, esp-info-length 0 inbound inbound, number-length seq id, number-length ack peer))
 
 -- four bytes hold a number's low 32 bits
 low-bytes : (n : ℕ) → bytesOf 4 (n % 4294967296) ≡ bytesOf 4 n

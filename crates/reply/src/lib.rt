@@ -1,4 +1,4 @@
-// A reply, written into the buffer that the caller lends. Depends on reply_form, writer and parameter.
+// The parameters of a reply and of an announcement, and a reply as a whole, written into the buffer that the caller lends. Depends on reply_form, writer and parameter.
 use parameter::ACK;
 use parameter::ECHO_REQUEST_SIGNED;
 use parameter::ESP_INFO;
@@ -18,7 +18,7 @@ ghost use Rattle.octets.specs.Written.{bytesOf};
 ghost use Rattle.parameter.specs.Written.{parameterBytes};
 ghost use Rattle.writer.specs.Writes.{writtenAt};
 ghost use Rattle.reply.specs.Low.{fourBytes};
-ghost use Rattle.reply_form.specs.Replies.{checkSize, espInfoBytes, echoRequestBytes, ackBytes, checkBytes, checksBytes, moveBytes, fitted, overwritten};
+ghost use Rattle.reply_form.specs.Replies.{checkSize, espInfoWith, echoRequestBytes, ackBytes, checkBytes, checksBytes, moveBytes, fitted, overwritten};
 
 // The bytes of a parameter's type and length, and of each parameter that is written; an ACK's size is a SEQ's too.
 const HEAD_SIZE: usize = 4;
@@ -42,7 +42,7 @@ const ECHO_REQUEST_AT: usize = 32;
 const FOUR_BYTES: u64 = 4294967296;
 
 // Writes the type and the length of a parameter.
-fn put_head(buffer: &mut [u8], at: usize, kind: u16, len: u16)
+pub fn put_head(buffer: &mut [u8], at: usize, kind: u16, len: u16)
     ensures { λ _. ⌜ now (buffer .exit) ≡ writtenAt at (bytesOf 2 kind ++ bytesOf 2 len) (now (buffer .entry)) ⌝ }
 {
     if buffer.len() < HEAD_SIZE {
@@ -56,7 +56,7 @@ fn put_head(buffer: &mut [u8], at: usize, kind: u16, len: u16)
 }
 
 // Writes a parameter that holds one number of four bytes: SEQ or ACK.
-fn put_number(buffer: &mut [u8], at: usize, kind: u16, value: u32)
+pub fn put_number(buffer: &mut [u8], at: usize, kind: u16, value: u32)
     ensures { λ _. ⌜ now (buffer .exit) ≡ writtenAt at (parameterBytes kind (bytesOf 4 value)) (now (buffer .entry)) ⌝ }
 {
     if buffer.len() < ACK_SIZE {
@@ -69,9 +69,9 @@ fn put_number(buffer: &mut [u8], at: usize, kind: u16, value: u32)
     put_u32(buffer, at + HEAD_SIZE, value);
 }
 
-// Writes ESP_INFO: reserved bits and KEYMAT Index 0, and the inbound SPI as the old one and as the new one.
-fn put_esp_info(buffer: &mut [u8], at: usize, inbound: u32)
-    ensures { λ _. ⌜ now (buffer .exit) ≡ writtenAt at (espInfoBytes inbound) (now (buffer .entry)) ⌝ }
+// Writes ESP_INFO: reserved bits 0, the KEYMAT Index, OLD SPI and NEW SPI.
+pub fn put_esp_info(buffer: &mut [u8], at: usize, keymat: u16, old: u32, new: u32)
+    ensures { λ _. ⌜ now (buffer .exit) ≡ writtenAt at (espInfoWith keymat old new) (now (buffer .entry)) ⌝ }
 {
     if buffer.len() < ESP_INFO_SIZE {
         return;
@@ -81,9 +81,9 @@ fn put_esp_info(buffer: &mut [u8], at: usize, inbound: u32)
     }
     put_head(buffer, at, ESP_INFO as u16, ESP_INFO_LENGTH as u16);
     put_u16(buffer, at + HEAD_SIZE, 0);
-    put_u16(buffer, at + 6, 0);
-    put_u32(buffer, at + 8, inbound);
-    put_u32(buffer, at + 12, inbound);
+    put_u16(buffer, at + 6, keymat);
+    put_u32(buffer, at + 8, old);
+    put_u32(buffer, at + 12, new);
 }
 
 // Writes ECHO_REQUEST_SIGNED with its nonce, and its padding.
@@ -111,7 +111,7 @@ fn put_check(buffer: &mut [u8], at: usize, inbound: u32, peer: u32, id: u32, non
     if buffer.len() - CHECK_SIZE < at {
         return;
     }
-    put_esp_info(buffer, at, inbound);
+    put_esp_info(buffer, at, 0, inbound, inbound);
     put_number(buffer, at + SEQ_AT, SEQ as u16, id);
     put_number(buffer, at + ACK_AT, ACK as u16, peer);
     put_echo_request(buffer, at + ECHO_REQUEST_AT, nonce);

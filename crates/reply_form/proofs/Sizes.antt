@@ -6,17 +6,18 @@ use lib.ListN.{length, getD, length-append, length-drop}
 use native.Mathlib.Omega.{arith}
 use Rattle.octets.specs.Written.{bytesOf}
 use Rattle.octets.proofs.Sizes.{bytes-length}
-use Rattle.parameter.specs.Types.{ack}
+use Rattle.parameter.specs.Types.{ack, echoResponseSigned}
+use Rattle.parameter.specs.Parameters.{takes}
 use Rattle.parameter.specs.Written.{parameterBytes}
 use Rattle.parameter.proofs.Sizes.{parameter-length}
-use Rattle.reply_form.specs.Replies.{checkSize, ackSize, espInfoBytes, ackBytes, echoRequestBytes, checkBytes, checksBytes, moveBytes, moveSize, overwritten}
+use Rattle.reply_form.specs.Replies.{checkSize, ackSize, espInfoWith, ackBytes, echoRequestBytes, echoResponseBytes, checkBytes, checksBytes, moveBytes, moveSize, responseBytes, overwritten}
 
 -- SEQ or ACK
 pub number-length : (kind value : ℕ) → length (parameterBytes kind (bytesOf 4 value)) ≡ ackSize
 number-length kind value = simp (parameter-length, bytes-length)
 
-pub esp-info-length : (inbound : ℕ) → length (espInfoBytes inbound) ≡ 16
-esp-info-length inbound = simp (parameter-length, length-append, bytes-length)
+pub esp-info-length : (keymat old new : ℕ) → length (espInfoWith keymat old new) ≡ 16
+esp-info-length keymat old new = simp (parameter-length, length-append, bytes-length)
 
 pub echo-request-length : (nonce : ℕ) → length (echoRequestBytes nonce) ≡ 16
 echo-request-length nonce = simp (parameter-length, bytes-length)
@@ -40,6 +41,14 @@ pub move-length : (inbound peer next : ℕ) (nonces : List ℕ) (checks : ℕ) �
 unfolding moveBytes
 move-length inbound peer next nonces zero = ack-length peer
 move-length inbound peer next nonces (suc checks) = checks-length inbound peer next nonces 0 (suc checks)
+
+-- the answer to a Check: the ACK, and the echo response by its length
+pub response-length : (peer : ℕ) (opaque : List ℕ) → length (responseBytes peer opaque) ≡ ackSize + takes (length opaque)
+unfolding responseBytes
+response-length peer opaque =
+    let one = ack-length peer in
+    let rest = parameter-length echoResponseSigned opaque in
+    length-append (ackBytes peer) (echoResponseBytes opaque) ∙ omega arith
 
 -- a reply that fits leaves the buffer as long as it was
 pub overwritten-length : (reply buffer : List ℕ) → length reply ≤ length buffer → length (overwritten reply buffer) ≡ length buffer

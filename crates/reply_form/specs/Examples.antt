@@ -1,4 +1,4 @@
--- Worked examples, computed from the definitions: the whole reply with one check, the order of two checks, and a reply without checks.
+-- Worked examples, computed from the definitions: the whole reply with one check, the order of two checks, a reply without checks, and answers to Checks.
 use Prim.Native.Nat.{ℕ}
 use mathlib.Core.Path.{_≡_, refl}
 use mathlib.Core.List.{[], _∷_, _++_, map}
@@ -6,7 +6,7 @@ use lib.ListN.{length, replicate}
 use Rattle.octets.specs.ExamplesHex.{hex}
 use Rattle.octets.specs.Written.{bytesOf}
 use Rattle.parameter.specs.Written.{parameterBytes}
-use Rattle.reply_form.specs.Replies.{nonceCount, checkSize, ackSize, ackBytes, checksBytes, moveBytes, moveSize, fitted, overwritten}
+use Rattle.reply_form.specs.Replies.{nonceCount, checkSize, ackSize, espInfoWith, ackBytes, checksBytes, moveBytes, moveSize, responseBytes, fitted, overwritten}
 
 -- "Peer ID 7, own ID 3, inbound SPI 0x1001, nonce 0102030405060708, one check, whole reply in hex"
 one-check : moveBytes 0x1001 7 3 (0x0102030405060708 ∷ []) 1
@@ -46,3 +46,24 @@ sizes = (refl, refl, refl)
 fits : map (λ (room : ℕ). fitted room (ackBytes 7)) (7 ∷ 8 ∷ 9 ∷ []) ≡ [] ∷ hex "01c10004 00000007" ∷ hex "01c10004 00000007" ∷ []
 unfolding parameterBytes bytesOf
 fits = refl
+
+-- ESP_INFO of a KEYMAT Index, OLD SPI and NEW SPI
+esp-info : espInfoWith 0x0203 0x1001 0x1002 ≡ hex "0041000c 00000203 00001001 00001002"
+unfolding parameterBytes bytesOf
+esp-info = refl
+
+-- the answer to a Check of Update ID 7: the ACK, and the echo response with 0, 1, 4, 5 and 8 opaque bytes, padded with zeros
+responses : map (responseBytes 7) ([] ∷ hex "aa" ∷ hex "aabbccdd" ∷ hex "aabbccddee" ∷ hex "01020304 05060708" ∷ [])
+    ≡ hex "01c10004 00000007 03c10000 00000000"
+    ∷ hex "01c10004 00000007 03c10001 aa000000"
+    ∷ hex "01c10004 00000007 03c10004 aabbccdd"
+    ∷ hex "01c10004 00000007 03c10005 aabbccdd ee000000 00000000"
+    ∷ hex "01c10004 00000007 03c10008 01020304 05060708 00000000"
+    ∷ []
+unfolding responseBytes parameterBytes bytesOf
+responses = refl
+
+-- "16 to 80 bytes": of 0 and of 64 opaque bytes
+response-sizes : map (λ (n : ℕ). length (responseBytes 7 (replicate n 0xff))) (0 ∷ 1 ∷ 64 ∷ []) ≡ 16 ∷ 16 ∷ 80 ∷ []
+unfolding responseBytes parameterBytes bytesOf
+response-sizes = refl

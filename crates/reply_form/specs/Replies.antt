@@ -5,7 +5,7 @@ use mathlib.Core.List.{List, [], _++_}
 use lib.Dec.{ltb}
 use lib.ListN.{length, getD, drop}
 use Rattle.octets.specs.Written.{bytesOf}
-use Rattle.parameter.specs.Types.{espInfo, seq, ack, echoRequestSigned, nonceSize}
+use Rattle.parameter.specs.Types.{espInfo, seq, ack, echoRequestSigned, echoResponseSigned, nonceSize}
 use Rattle.parameter.specs.Written.{parameterBytes}
 
 -- "eight nonces of 8 bytes": the nonces that a message brings
@@ -20,9 +20,13 @@ checkSize = 48
 abbrev pub ackSize : ℕ
 ackSize = 8
 
--- "ESP_INFO (KEYMAT Index 0, both SPIs the inbound one)", its reserved bits zero
+-- ESP_INFO: "reserved 16 bits, KEYMAT Index 16, OLD SPI 32, NEW SPI 32", its reserved bits zero
+abbrev pub espInfoWith : (keymat old new : ℕ) → List ℕ
+espInfoWith keymat old new = parameterBytes espInfo (bytesOf 2 0 ++ (bytesOf 2 keymat ++ (bytesOf 4 old ++ bytesOf 4 new)))
+
+-- "ESP_INFO (KEYMAT Index 0, both SPIs the inbound one)"
 abbrev pub espInfoBytes : (inbound : ℕ) → List ℕ
-espInfoBytes inbound = parameterBytes espInfo (bytesOf 2 0 ++ (bytesOf 2 0 ++ (bytesOf 4 inbound ++ bytesOf 4 inbound)))
+espInfoBytes inbound = espInfoWith 0 inbound inbound
 
 -- "SEQ": the check's own Update ID
 abbrev pub seqBytes : (id : ℕ) → List ℕ
@@ -55,6 +59,14 @@ moveBytes inbound peer next nonces (suc checks) = checksBytes inbound peer next 
 abbrev pub moveSize : (checks : ℕ) → ℕ
 moveSize zero = ackSize
 moveSize (suc checks) = checkSize * suc checks
+
+-- order 1: "an echo response with the same opaque bytes"
+abbrev pub echoResponseBytes : (opaque : List ℕ) → List ℕ
+echoResponseBytes opaque = parameterBytes echoResponseSigned opaque
+
+-- a Check "gets an ACK of the peer's ID and an echo response with the same opaque bytes"
+unfoldable pub responseBytes : (peer : ℕ) → (opaque : List ℕ) → List ℕ
+responseBytes peer opaque = ackBytes peer ++ echoResponseBytes opaque
 
 -- what a buffer of this length takes of a reply: all of it, or nothing where it does not fit
 abbrev pub fitted : (room : ℕ) → (reply : List ℕ) → List ℕ

@@ -13,8 +13,8 @@ use Rattle.readdress.specs.Echoes.{refusal8}
 use Rattle.readdress.specs.Checks.{refusal10}
 use Rattle.association.specs.declared.Association.{Association}
 use Rattle.association.specs.Form.{refusal0}
-use Rattle.update.specs.Refusals.{refusal1, refusal2, refusal7, repeats, refusal9, refusal11}
-use Rattle.update.specs.Messages.{Handled, checksOf, refused, repeated, replied, moved, handleReply, handleMove, handleReading, handled}
+use Rattle.update.specs.Refusals.{refusal1, refusal2, refusal7, repeats, refusal9, refusal11, refusal22}
+use Rattle.update.specs.Messages.{Handled, checksOf, refused, repeated, replied, moved, responded, repeatedCheck, handleReply, handleMove, handleCheck, handleReading, handled}
 
 module _ (P : Handled → Type 0) (a : Association) (refusals : (n : ℕ) → P (refused n a)) where
   -- a Reply: refused, or accepted
@@ -34,12 +34,21 @@ module _ (P : Handled → Type 0) (a : Association) (refusals : (n : ℕ) → P 
       (λ q. cond-all P (refusal10 nonces (a .slots)) (refused 10 a) _ (λ q. refusals 10)
       (λ q. cond-all P (refusal11 (a .next) (checksOf a m set)) (refused 11 a) (moved a m set nonces) (λ r. refusals 11) (λ r. done q r))))))
 
+  -- a Check: refused, Repeated, or accepted with opaque bytes that refusal 22 lets pass
+  pub check-ends : (id : ℕ) (opaque : List ℕ) → (refusal22 opaque ≡ false → P (repeatedCheck a id opaque)) → (refusal22 opaque ≡ false → P (responded a id opaque)) →
+      P (handleCheck a id opaque)
+  unfolding handleCheck
+  check-ends id opaque again done =
+      cond-all P (refusal22 opaque) (refused 22 a) _ (λ q. refusals 22)
+      (λ q. cond-all P (refusal7 id (a .peer)) (refused 7 a) _ (λ r. refusals 7)
+      (λ r. cond-all P (repeats id (a .peer)) (repeatedCheck a id opaque) (responded a id opaque) (λ t. again q) (λ t. done q)))
+
   -- a message: refused by 0, 1 or 2, or lent room for the reply, authentic, and read
   pub message-ends : (packet : List ℕ) (authentic : Bool) (nonces : List ℕ) (room : ℕ) →
-      (refusal0 a ≡ false → refusal1 room ≡ false → authentic ≡ true → P (handleReading a (readingOf packet) nonces)) → P (handled a packet authentic nonces room)
+      (refusal0 a ≡ false → refusal1 room ≡ false → authentic ≡ true → P (handleReading a packet (readingOf packet) nonces)) → P (handled a packet authentic nonces room)
   unfolding handled
   message-ends packet authentic nonces room read =
       cond-all P (refusal0 a) (refused 0 a) _ (λ q. refusals 0)
       (λ p. cond-all P (refusal1 room) (refused 1 a) _ (λ q. refusals 1)
-      (λ q. cond-all P (refusal2 authentic) (refused 2 a) (handleReading a (readingOf packet) nonces) (λ r. refusals 2)
+      (λ q. cond-all P (refusal2 authentic) (refused 2 a) (handleReading a packet (readingOf packet) nonces) (λ r. refusals 2)
       (λ r. read p q (not-false authentic r))))

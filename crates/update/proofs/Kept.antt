@@ -8,8 +8,8 @@ use borrow.Author.Tests.{ltb-false, lt-leb}
 use Rattle.packet.specs.declared.EchoResponse.{EchoResponse}
 use Rattle.packet.specs.declared.MoveFields.{MoveFields}
 use Rattle.packet.specs.declared.Message.{Message}
-use Rattle.packet.specs.declared.Message.the-variants.{Refused, Move, Reply}
-use Rattle.packet.specs.Readings.{readingOf}
+use Rattle.packet.specs.declared.Message.the-variants.{Refused, Move, Reply, PeerCheck}
+use Rattle.packet.specs.Readings.{readingOf, opaqueOf}
 use Rattle.locator.specs.declared.ListedLocator.{ListedLocator}
 use Rattle.slot.specs.Found.{slotCount}
 use Rattle.slots.proofs.Kept.{clear-pairs, pairs-clear}
@@ -23,8 +23,8 @@ use Rattle.association.specs.declared.Association.{Association}
 use Rattle.association.specs.Form.{idLimit, beyond}
 use Rattle.association.proofs.Sound.{sound, not-refused, Formed, Keeps}
 use Rattle.update.specs.Refusals.{refusal11}
-use Rattle.update.proofs.Cases.{reply-ends, move-ends, message-ends}
-use Rattle.update.specs.Messages.{Handled, afterReply, differs, placement, checksOf, afterMove, handleMessage, messageOf}
+use Rattle.update.proofs.Cases.{reply-ends, move-ends, check-ends, message-ends}
+use Rattle.update.specs.Messages.{Handled, afterReply, afterCheck, differs, placement, checksOf, afterMove, handleMessage, messageOf}
 
 abbrev LeavesFormed : Handled → Type 0
 LeavesFormed h = Formed (h .left)
@@ -44,6 +44,17 @@ reply-formed a e p =
             preferred = s .preferred;
             apart = pairs-clear (verifyAll e (a .slots)) (verified-apart e (a .slots) (clear-pairs (a .slots) (s .apart)));
           });
+    }
+
+-- a Check stores its ID, which refusal 0 does not judge
+check-formed : (a : Association) (id : ℕ) → Formed a → Formed (afterCheck a id)
+check-formed a id p =
+    let s = sound a (p .unrefused) in
+    record {
+      whole = p .whole;
+      unrefused =
+          not-refused (afterCheck a id)
+          (record { time = s .time; aged = s .aged; credit = s .credit; next = s .next; preferred = s .preferred; apart = s .apart });
     }
 
 module _ (a : Association) (m : MoveFields) (set : List ListedLocator) (nonces : List ℕ) (eight : length nonces ≡ nonceCount) (p : Formed a) where
@@ -68,16 +79,18 @@ module _ (a : Association) (m : MoveFields) (set : List ListedLocator) (nonces :
             });
       }
 
-handled-message-formed : (a : Association) (g : Message) (listed : List ListedLocator) (nonces : List ℕ) → length nonces ≡ nonceCount → Formed a →
-    LeavesFormed (handleMessage a g listed nonces)
-handled-message-formed a (Refused why) listed nonces eight p = p
-handled-message-formed a (Move m) listed nonces eight p =
+handled-message-formed : (a : Association) (packet : List ℕ) (g : Message) (listed : List ListedLocator) (nonces : List ℕ) → length nonces ≡ nonceCount → Formed a →
+    LeavesFormed (handleMessage a packet g listed nonces)
+handled-message-formed a packet (Refused why) listed nonces eight p = p
+handled-message-formed a packet (PeerCheck c) listed nonces eight p =
+    check-ends LeavesFormed a (λ n. p) (c .id) (opaqueOf packet c) (λ q. p) (λ q. check-formed a (c .id) p)
+handled-message-formed a packet (Move m) listed nonces eight p =
     move-ends LeavesFormed a (λ n. p) m (take (m .count) listed) nonces p (λ q r. move-formed a m (take (m .count) listed) nonces eight p q r)
-handled-message-formed a (Reply e) listed nonces eight p = reply-ends LeavesFormed a (λ n. p) e (reply-formed a e p)
+handled-message-formed a packet (Reply e) listed nonces eight p = reply-ends LeavesFormed a (λ n. p) e (reply-formed a e p)
 
 -- no message makes an association that refusal 0 refuses
 pub message-keeps : (packet : List ℕ) (authentic : Bool) (nonces : List ℕ) → length nonces ≡ nonceCount → (buffer : List ℕ) →
     Keeps (λ a. messageOf a packet authentic nonces buffer .association)
 message-keeps packet authentic nonces eight buffer a p =
     message-ends LeavesFormed a (λ n. p) packet authentic nonces (length buffer)
-    (λ q r s. handled-message-formed a (readingOf packet .message) (readingOf packet .listed) nonces eight p)
+    (λ q r s. handled-message-formed a packet (readingOf packet .message) (readingOf packet .listed) nonces eight p)

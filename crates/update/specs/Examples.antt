@@ -69,11 +69,11 @@ abbrev holding : (expiry : ℕ) → Status → Slot
 holding expiry s = slotOf (record { address = record { high = 1; low = 1 }; traffic = 0; expiry = expiry; status = s })
 
 -- UNVERIFIED, with this check
-abbrev waiting : (nonce id : ℕ) → Status
+abbrev pub waiting : (nonce id : ℕ) → Status
 waiting nonce id = Unverified (record { nonce = nonce; id = id })
 
 -- an association at time 100, where the last ageing was at 97
-abbrev with : (outbound peer next expiry : ℕ) → Status → Association
+abbrev pub with : (outbound peer next expiry : ℕ) → Status → Association
 with outbound peer next expiry s = record {
   outbound = outbound;
   inbound = 4097;
@@ -87,7 +87,7 @@ with outbound peer next expiry s = record {
 }
 
 -- with nonce 9 outstanding, the highest Update ID 5, and this next own one
-abbrev found : (next : ℕ) → Association
+abbrev pub found : (next : ℕ) → Association
 found next = with 7 5 next 130 (waiting 9 2)
 
 -- a Move with KEYMAT Index 3 that lists address 1
@@ -95,7 +95,7 @@ abbrev fields : (old new id : ℕ) → EchoResponse → MoveFields
 fields old new id e = record { keymat = 3; old = old; new = new; id = id; count = 1; echo = e }
 
 -- offered nonces: distinct
-abbrev fresh : List ℕ
+abbrev pub fresh : List ℕ
 fresh = 11 ∷ 12 ∷ 13 ∷ 14 ∷ 15 ∷ 16 ∷ 17 ∷ 18 ∷ []
 
 -- two of these are equal

@@ -1,3 +1,4 @@
 pub mod Refusals
 pub mod Messages
 pub mod Examples
+pub mod ExamplesChecks

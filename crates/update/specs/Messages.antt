@@ -9,9 +9,9 @@ use Rattle.refusal.specs.Table.{refusal}
 use Rattle.packet.specs.declared.EchoResponse.{EchoResponse}
 use Rattle.packet.specs.declared.MoveFields.{MoveFields}
 use Rattle.packet.specs.declared.Message.{Message}
-use Rattle.packet.specs.declared.Message.the-variants.{Refused, Move, Reply}
+use Rattle.packet.specs.declared.Message.the-variants.{Refused, Move, Reply, PeerCheck}
 use Rattle.packet.specs.declared.Reading.{Reading}
-use Rattle.packet.specs.Readings.{readingOf}
+use Rattle.packet.specs.Readings.{readingOf, opaqueOf}
 use Rattle.locator.specs.declared.ListedLocator.{ListedLocator}
 use Rattle.readdress.specs.declared.Placement.{Placement}
 use Rattle.readdress.specs.Echoes.{verifyAll, refusal8}
@@ -21,10 +21,10 @@ use Rattle.association.specs.declared.PeerId.{PeerId}
 use Rattle.association.specs.declared.PeerId.the-variants.{Highest}
 use Rattle.association.specs.declared.Association.{Association}
 use Rattle.association.specs.Form.{refusal0}
-use Rattle.reply_form.specs.Replies.{ackBytes, moveBytes, overwritten}
-use Rattle.update.specs.Refusals.{refusal1, refusal2, refusal7, repeats, refusal9, refusal11}
+use Rattle.reply_form.specs.Replies.{ackBytes, moveBytes, responseBytes, overwritten}
+use Rattle.update.specs.Refusals.{refusal1, refusal2, refusal7, repeats, refusal9, refusal11, refusal22}
 use Rattle.update.specs.declared.MessageOutcome.{MessageOutcome}
-use Rattle.update.specs.declared.MessageOutcome.the-variants.{Moved, Replied, Repeated, Declined}
+use Rattle.update.specs.declared.MessageOutcome.the-variants.{Moved, Replied, Responded, Repeated, Declined}
 use Rattle.update.specs.declared.MessageAnswer.{MessageAnswer}
 
 -- ---- what an accepted message leaves
@@ -76,6 +76,20 @@ afterMove a m set nonces = record {
   slots = newSlots set (a .next) nonces (placement a m set);
 }
 
+-- a Check "stores its ID"
+abbrev pub afterCheck : Association → (id : ℕ) → Association
+afterCheck a id = record {
+  outbound = a .outbound;
+  inbound = a .inbound;
+  time = a .time;
+  aged = a .aged;
+  credit = a .credit;
+  peer = Highest id;
+  next = a .next;
+  preferred = a .preferred;
+  slots = a .slots;
+}
+
 -- ---- the answers
 -- an answer with the reply's bytes themselves
 pub record Handled : Type 0 where
@@ -111,6 +125,14 @@ moved a m set nonces = record {
   left = afterMove a m set nonces;
 }
 
+-- a Check "gets an ACK of the peer's ID and an echo response with the same opaque bytes", and "its answer's KEYMAT Index is 0"
+abbrev pub responded : Association → (id : ℕ) → (opaque : List ℕ) → Handled
+responded a id opaque = record { outcome = Responded; reply = responseBytes id opaque; checks = 0; keymat = 0; left = afterCheck a id }
+
+-- "a Repeated Check is answered with the bytes it would get if new and changes nothing"
+abbrev pub repeatedCheck : Association → (id : ℕ) → (opaque : List ℕ) → Handled
+repeatedCheck a id opaque = record { outcome = Repeated; reply = responseBytes id opaque; checks = 0; keymat = 0; left = a }
+
 -- ---- the refusals in order
 -- a Reply: refusal 8
 unfoldable pub handleReply : Association → EchoResponse → Handled
@@ -130,23 +152,33 @@ handleMove a m set nonces =
     (cond (refusal10 nonces (a .slots)) (refused 10 a)
     (accepted a m set nonces)))))
 
--- what is read of the packet: one of the refusals 3 to 6, a Move with the locators that it lists, or a Reply
-abbrev pub handleMessage : Association → Message → (listed : List ListedLocator) → (nonces : List ℕ) → Handled
-handleMessage a (Refused why) listed nonces = declined why a
-handleMessage a (Move m) listed nonces = handleMove a m (take (m .count) listed) nonces
-handleMessage a (Reply e) listed nonces = handleReply a e
+-- a Check with these opaque bytes: refusal 22, "tried after row 5"; "A Check falls under row 7 as a Move does", and is Repeated as one is
+unfoldable pub handleCheck : Association → (id : ℕ) → (opaque : List ℕ) → Handled
+handleCheck a id opaque =
+    cond (refusal22 opaque) (refused 22 a)
+    (cond (refusal7 id (a .peer)) (refused 7 a)
+    (cond (repeats id (a .peer)) (repeatedCheck a id opaque)
+    (responded a id opaque)))
 
--- the same, of a reading
-abbrev pub handleReading : Association → Reading → (nonces : List ℕ) → Handled
-handleReading a r nonces = handleMessage a (r .message) (r .listed) nonces
+-- what is read of the packet: one of the refusals 3 to 6, a Move with the locators that it lists, a Reply, or a Check with the packet's opaque bytes
+abbrev pub handleMessage : Association → (packet : List ℕ) → Message → (listed : List ListedLocator) → (nonces : List ℕ) → Handled
+handleMessage a packet (Refused why) listed nonces = declined why a
+handleMessage a packet (Move m) listed nonces = handleMove a m (take (m .count) listed) nonces
+handleMessage a packet (Reply e) listed nonces = handleReply a e
+handleMessage a packet (PeerCheck c) listed nonces = handleCheck a (c .id) (opaqueOf packet c)
 
--- refusals 0, 1 and 2, and then what is read of the packet: "A message is tried in" the order 0 to 11
+-- the same, of the packet's reading
+abbrev pub handleReading : Association → (packet : List ℕ) → Reading → (nonces : List ℕ) → Handled
+handleReading a packet r nonces = handleMessage a packet (r .message) (r .listed) nonces
+
+-- refusals 0, 1 and 2, and then what is read of the packet: "A message is tried in" the order 0 to 11, a Check by 22
+-- and 7 after 5
 unfoldable pub handled : Association → (packet : List ℕ) → (authentic : Bool) → (nonces : List ℕ) → (room : ℕ) → Handled
 handled a packet authentic nonces room =
     cond (refusal0 a) (refused 0 a)
     (cond (refusal1 room) (refused 1 a)
     (cond (refusal2 authentic) (refused 2 a)
-    (handleReading a (readingOf packet) nonces)))
+    (handleReading a packet (readingOf packet) nonces)))
 
 -- ---- the whole answer of the call
 -- what the call returns: "reply bytes, number of checks, and KEYMAT Index"

@@ -1,10 +1,12 @@
--- The refusals of a message that are not judged below: 1, 2, 7, 9 and 11, and what is Repeated. Refusal 0 is `association`'s, 3 to 6 are
+-- The refusals of a message that are not judged below: 1, 2, 7, 9, 11 and 22, and what is Repeated. Refusal 0 is `association`'s, 3 to 6 are
 -- `packet`'s, 8 and 10 are `readdress`'s.
 use Prim.Native.Nat.{ℕ, _+_}
 use mathlib.Core.Bool.{Bool, false, not, _&&_, _||_}
 use mathlib.Core.List.{List}
 use lib.Dec.{ltb, eqb}
+use lib.ListN.{length}
 use Rattle.octets.specs.Records.{some}
+use Rattle.locator.specs.Locators.{spiType}
 use Rattle.locator.specs.declared.ListedLocator.{ListedLocator}
 use Rattle.association.specs.declared.PeerId.{PeerId}
 use Rattle.association.specs.declared.PeerId.the-variants.{NoneSeen, Highest}
@@ -33,10 +35,6 @@ abbrev pub repeats : (id : ℕ) → PeerId → Bool
 repeats id NoneSeen = false
 repeats id (Highest h) = eqb id h
 
--- the locator type that has an SPI
-abbrev pub spiType : ℕ
-spiType = 1
-
 -- "a type 1 locator's SPI not NEW SPI"
 abbrev pub otherSpi : (new : ℕ) → ListedLocator → Bool
 otherSpi new e = eqb (e .kind) spiType && not (eqb (e .spi) new)
@@ -48,3 +46,11 @@ refusal9 outbound old new set = not (eqb old outbound) || (unusableSpi new || so
 -- refusal 11: "next own ID + new checks over 2^32"
 abbrev pub refusal11 : (next checks : ℕ) → Bool
 refusal11 next checks = ltb idLimit (next + checks)
+
+-- "the same opaque bytes, up to 64 of them"
+abbrev pub opaqueLimit : ℕ
+opaqueLimit = 64
+
+-- refusal 22: "Opaque over 64"
+abbrev pub refusal22 : (opaque : List ℕ) → Bool
+refusal22 opaque = ltb opaqueLimit (length opaque)

@@ -6,10 +6,11 @@ use lib.ListN.{length, take}
 use denote.Ref.{now}
 use Rattle.association.specs.Form.{refusal0}
 use Rattle.update.specs.Refusals.{refusal1}
-use Rattle.update.specs.Messages.{declined, handleReply, handleMove}
+use Rattle.update.specs.Messages.{declined, handleReply, handleMove, handleCheck}
 use Rattle.answer.proofs.Tests.{found}
 use Rattle.accept.specs.Room.{guarded}
-use Rattle.message.proofs.Ends.{reply-unwritten, Lent, ends, ends-refused, stops-0, stops-1, stops-2, Read, read-refused, read-reply, read-move}
+use Rattle.respond.specs.Room.{roomy}
+use Rattle.message.proofs.Ends.{reply-unwritten, Lent, ends, ends-refused, stops-0, stops-1, stops-2, Read, read-refused, read-reply, read-move, read-check}
 use Rattle.message.proofs.receive.Statement.{statement}
 use Rattle.message.proofs.receive.Tie as tie
 
@@ -101,6 +102,15 @@ enum-known-message-3 c = search needs
 handle-move-requires : tie.Need-handle-move-requires
 handle-move-requires c κs = tt
 
+enum-known-message-4 : tie.Need-enum-known-message-4
+enum-known-message-4 c = search needs
+
+opaque-part-requires : tie.Need-opaque-part-requires
+opaque-part-requires c κs = tt
+
+handle-check-requires : tie.Need-handle-check-requires
+handle-check-requires c κs = tt
+
 returns-4 : tie.Need-returns-4
 returns-4 c =
     let known = c .before .before in
@@ -134,6 +144,22 @@ returns-6 c =
     ends given (call .handle-move .result) (call .handle-move .last .1 .1 .1 .1 .0) handled (call .handle-move .ensures .0) (call .handle-move .ensures .1)
     (read-move given (read .read-packet .result) (front read) m (known .message3 .given .1))
 
+same-length-2 : tie.Need-same-length-2
+same-length-2 c = search needs
+
+returns-7 : tie.Need-returns-7
+returns-7 c =
+    let call = c .before .before in
+    let part = call .before .before in
+    let known = part .before .before in
+    let read = known .before .before .before in
+    let given = lent (start read) in
+    let check = known .message4 .given .0 .0 in
+    let opaque = now (part .opaque-part .result) in
+    let handled = roomy (length (given .buffer)) (given .association) (handleCheck (given .association) (check .id) opaque) in
+    ends given (call .handle-check .result) (call .handle-check .last .1 .1 .1 .0) handled (call .handle-check .ensures .0) (call .handle-check .ensures .1)
+    (read-check given (read .read-packet .result) (front read) check opaque (known .message4 .given .1) (part .opaque-part .ensures))
+
 pub receive-spec : {M : Type 1} → statement M
 receive-spec =
     tie.close
@@ -154,7 +180,12 @@ receive-spec =
     handle-reply-requires
     enum-known-message-3
     handle-move-requires
+    enum-known-message-4
+    opaque-part-requires
+    handle-check-requires
     returns-4
     returns-5
     same-length
-    returns-6)
+    returns-6
+    same-length-2
+    returns-7)

@@ -1,19 +1,19 @@
 -- `reply::put_esp_info` meets its contract. Its parts stand one after another. Assumes nothing.
 use native.Mathlib.Omega.{arith}
-use Rattle.reply_form.specs.Replies.{espInfoBytes}
+use Rattle.reply_form.specs.Replies.{espInfoWith}
 use Rattle.reply_form.proofs.Sizes.{esp-info-length}
 use Rattle.reply.proofs.Parts.{part-beyond, esp-info-written}
 use Rattle.reply.proofs.put_esp_info.Statement.{statement}
 use Rattle.reply.proofs.put_esp_info.Tie as tie
 
 returns : tie.Need-returns
-returns c = let a = c .before .before .args in part-beyond (a .at) 16 (espInfoBytes (a .inbound)) (a .buffer .now) (esp-info-length (a .inbound)) (omega arith)
+returns c = let a = c .before .before .args in part-beyond (a .at) 16 (espInfoWith (a .keymat) (a .old) (a .new)) (a .buffer .now) (esp-info-length (a .keymat) (a .old) (a .new)) (omega arith)
 
 sub-if2 : tie.Need-sub-if2
 sub-if2 c = omega arith
 
 returns-2 : tie.Need-returns-2
-returns-2 c = let a = c .before .before .before .args in part-beyond (a .at) 16 (espInfoBytes (a .inbound)) (a .buffer .now) (esp-info-length (a .inbound)) (omega arith)
+returns-2 c = let a = c .before .before .before .args in part-beyond (a .at) 16 (espInfoWith (a .keymat) (a .old) (a .new)) (a .buffer .now) (esp-info-length (a .keymat) (a .old) (a .new)) (omega arith)
 
 cast-put-head : tie.Need-cast-put-head
 cast-put-head c = omega arith
@@ -59,7 +59,7 @@ returns-3 c =
     let two = three .before .before .before .before in
     let one = two .before .before .before .before in
     let a = one .before .before .before .before .before .args in
-    esp-info-written (a .inbound) (a .at) (a .buffer .now) _ _ _ _ _ (omega arith) (one .put-head .ensures) (two .put-u16 .ensures) (three .put-u162 .ensures) (four .put-u32 .ensures) (five .put-u322 .ensures)
+    esp-info-written (a .keymat) (a .old) (a .new) (a .at) (a .buffer .now) _ _ _ _ _ (omega arith) (one .put-head .ensures) (two .put-u16 .ensures) (three .put-u162 .ensures) (four .put-u32 .ensures) (five .put-u322 .ensures)
 
 pub put-esp-info-spec : {M : Type 1} → statement M
 put-esp-info-spec =
