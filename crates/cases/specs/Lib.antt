@@ -4,3 +4,5 @@ pub mod Tables
 pub mod Starred
 pub mod Refusals
 pub mod Story
+pub mod Announced
+pub mod Meeting

@@ -204,7 +204,7 @@ table =
     ∷ (brings falling gives refuses 3)
     -- 4: "odd type not known"
     ∷ (brings (packetOf (goodEsp ++ (unknown ++ (setOf listed ++ idOf 7)))) gives refuses 4)
-    -- 5: "neither Move nor Reply", with a second echo response
+    -- 5: none of the three kinds, with a second echo response
     ∷ (brings (packetOf (moveParts outbound outbound 7 listed ++ (echo 9 ++ echo 9))) gives refuses 5)
     -- 6: "lifetime 0"
     ∷ (brings (moveOf outbound outbound 7 expired) gives refuses 6)

@@ -15,9 +15,10 @@ use Rattle.update.specs.declared.MessageOutcome.{MessageOutcome}
 use Rattle.update.specs.declared.MessageOutcome.the-variants.{Declined}
 use Rattle.update.specs.declared.MessageAnswer.{MessageAnswer}
 use Rattle.update.specs.Messages.{messageOf, bufferAfter}
+use Rattle.announcement.specs.declared.Announcement.{Announcement}
 
--- what is seen: a number; the status of an address; the preference; the whole answer to a start, an arrival or a tick, to a send, and to a message with the lent
--- buffer after it
+-- what is seen: a number; the status of an address; the preference; the whole answer to a start, an arrival or a tick, to a send, and to a message and an
+-- announcement with the lent buffer after it
 pub data Seen : Type 0 where
   number : ℕ → Seen
   status : Option Status → Seen
@@ -25,6 +26,7 @@ pub data Seen : Type 0 where
   answer : Answer → Seen
   sent : SendAnswer → Seen
   heard : MessageAnswer → (buffer : List ℕ) → Seen
+  announced : Announcement → (buffer : List ℕ) → Seen
 
 -- a case: what the definitions give, and what is written down
 pub record Case : Type 0 where

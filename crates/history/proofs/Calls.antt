@@ -25,6 +25,8 @@ use Rattle.association.specs.Form.{refusal0, withCredit, accepted, refused}
 use Rattle.association.specs.Start.{noAssociation}
 use Rattle.association.specs.declared.Association.{Association}
 use Rattle.association.specs.declared.Answer.{Answer}
+use Rattle.association.specs.declared.Outcome.{Outcome}
+use Rattle.association.specs.declared.Outcome.the-variants.{Accepted, Refused}
 use Rattle.association.proofs.Sound.{Keeps}
 use Rattle.association.proofs.Started.{none-refused}
 use Rattle.payload.specs.Calls.{arrivalOf, sendOf, sendTo, granted, denied}
@@ -34,12 +36,16 @@ use Rattle.clock.specs.Ticks.{ticked, tickOf}
 use Rattle.clock.proofs.Kept.{tick-keeps}
 use Rattle.reply_form.specs.Replies.{nonceCount}
 use Rattle.update.specs.declared.MessageOutcome.{MessageOutcome}
-use Rattle.update.specs.declared.MessageOutcome.the-variants.{Moved, Replied, Repeated, Declined}
+use Rattle.update.specs.declared.MessageOutcome.the-variants.{Moved, Replied, Responded, Repeated, Declined}
 use Rattle.update.specs.Messages.{handleMessage, handled}
 use Rattle.update.proofs.Cases.{message-ends}
 use Rattle.update.proofs.Untouched.{isDeclined, message-untouched, declined-buffer}
 use Rattle.update.proofs.Kept.{message-keeps}
-use Rattle.history.specs.Calls.{Call, message, arrival, send, tick, Answered, refusedBy, ofOutcome, ofSend, ofMessage, done, repeated, grantedTo, answers, returned, lent, lentAfter, isAccepted, after}
+use Rattle.announcement.specs.declared.OwnLocator.{OwnLocator}
+use Rattle.announcement.specs.Announcements as announcements
+use Rattle.announcement.proofs.Ends.{isRefused, announcement-ends, refused-buffer}
+use Rattle.announcement.proofs.Kept.{announcement-keeps}
+use Rattle.history.specs.Calls.{Call, message, arrival, send, tick, announce, Answered, refusedBy, ofOutcome, ofSend, ofMessage, done, repeated, grantedTo, answers, returned, lent, lentAfter, isAccepted, after}
 use Rattle.history.specs.Ledger.{held, entriesOf, lastOf}
 use Rattle.history.specs.Words.{isAuthentic, echoed, retires, taken}
 use Rattle.history.specs.Demand.{Demand1}
@@ -53,6 +59,7 @@ keeps (message packet authentic nonces eight buffer) = message-keeps packet auth
 keeps (arrival size) = arrival-keeps size
 keeps (send size) = send-keeps size
 keeps (tick time) = tick-keeps time
+keeps (announce list count inbound keymat buffer) = announcement-keeps list count inbound keymat buffer
 
 pub after-keeps : (cs : List Call) → Keeps (λ a. after a cs)
 unfolding after
@@ -61,11 +68,12 @@ after-keeps (c ∷ cs) a p = after-keeps cs (returned a c) (keeps c a p)
 
 -- refusal 0 "comes first in every call but start"
 pub bad-refused : (a : Association) → refusal0 a ≡ true → (c : Call) → answers a c ≡ refusedBy (refusal 0)
-unfolding handled arrivalOf sendOf tickOf
+unfolding handled arrivalOf sendOf tickOf announcements.handled
 bad-refused a p (message packet authentic nonces eight buffer) = rw p
 bad-refused a p (arrival size) = rw p
 bad-refused a p (send size) = rw p
 bad-refused a p (tick time) = rw p
+bad-refused a p (announce list count inbound keymat buffer) = rw p
 
 -- every call refuses what a refused start leaves
 pub none-refuses : (c : Call) → answers noAssociation c ≡ refusedBy (refusal 0)
@@ -91,18 +99,21 @@ refused-entries last a (message packet authentic nonces eight buffer) r = refl
 refused-entries last a (arrival size) r = refl
 refused-entries last a (send size) r = refl
 refused-entries last a (tick time) r = refl
+refused-entries last a (announce list count inbound keymat buffer) r = refl
 
 refused-last : (last : ℕ) (c : Call) (r : Refusal) → lastOf last c (refusedBy r) ≡ last
 refused-last last (message packet authentic nonces eight buffer) r = refl
 refused-last last (arrival size) r = refl
 refused-last last (send size) r = refl
 refused-last last (tick time) r = refl
+refused-last last (announce list count inbound keymat buffer) r = refl
 
 refused-taken : (x : Address) (a : Association) (c : Call) (r : Refusal) → taken x a c (refusedBy r) ≡ none
 refused-taken x a (message packet authentic nonces eight buffer) r = refl
 refused-taken x a (arrival size) r = refl
 refused-taken x a (send size) r = refl
 refused-taken x a (tick time) r = refl
+refused-taken x a (announce list count inbound keymat buffer) r = refl
 
 refused-did : (a : Association) (c : Call) (r : Refusal) → Did a c (refusedBy r) a
 unfolding held Funded
@@ -158,6 +169,22 @@ tick-did a time =
       traced = λ x. traced-expired (statusIn x (a .slots)) (statusIn x (ticked a time .slots)) true (expired-statuses x time (a .slots));
     }))
 
+-- ---- an announcement
+announce-did : (a : Association) (list : List OwnLocator) (count inbound keymat : ℕ) (buffer : List ℕ) →
+    Did a (announce list count inbound keymat buffer) (answers a (announce list count inbound keymat buffer)) (returned a (announce list count inbound keymat buffer))
+unfolding announcements.afterAnnouncement held Funded
+announce-did a list count inbound keymat buffer =
+    announcement-ends (λ h. Did a (announce list count inbound keymat buffer) (ofOutcome (h .outcome)) (h .left)) a
+    (λ n. refused-did a (announce list count inbound keymat buffer) (refusal n)) list count inbound keymat (length buffer)
+    (λ p. record {
+      refused-same = λ e. apart e;
+      last = refl;
+      credit = refl;
+      funded = tt;
+      authentic = λ n e f. no-echo n f;
+      traced = λ x. traced-still (statusIn x (a .slots)) true;
+    })
+
 -- ---- a send
 abbrev DidSend : Association → (size : ℕ) → SendAnswer → Type 0
 DidSend a size r = Did a (send size) (ofSend (r .outcome)) (r .association)
@@ -209,6 +236,7 @@ send-did a size =
 declined-is : (o : MessageOutcome) → isAccepted (ofMessage o) ≡ false → isDeclined o ≡ true
 declined-is Moved e = sym e
 declined-is Replied e = sym e
+declined-is Responded e = sym e
 declined-is Repeated e = sym e
 declined-is (Declined r) e = refl
 
@@ -219,14 +247,14 @@ message-did a packet authentic nonces eight buffer =
     message-ends (λ h. Did a (message packet authentic nonces eight buffer) (ofMessage (h .outcome)) (h .left)) a
     (λ n. refused-did a (message packet authentic nonces eight buffer) (refusal n)) packet authentic nonces (length buffer)
     (λ p r q.
-    let left = message-untouched a (readingOf packet .message) (readingOf packet .listed) nonces in
+    let left = message-untouched a packet (readingOf packet .message) (readingOf packet .listed) nonces in
     record {
-      refused-same = λ e. left .association (declined-is (handleMessage a (readingOf packet .message) (readingOf packet .listed) nonces .outcome) e);
+      refused-same = λ e. left .association (declined-is (handleMessage a packet (readingOf packet .message) (readingOf packet .listed) nonces .outcome) e);
       last = left .aged;
       credit = left .credit;
       funded = tt;
       authentic = λ n e f. q;
-      traced = λ x. traced-message x a (readingOf packet .message) (readingOf packet .listed) nonces;
+      traced = λ x. traced-message x a packet (readingOf packet .message) (readingOf packet .listed) nonces;
     })
 
 pub did : (a : Association) (c : Call) → Did a c (answers a c) (returned a c)
@@ -234,8 +262,14 @@ did a (message packet authentic nonces eight buffer) = message-did a packet auth
 did a (arrival size) = arrival-did a size
 did a (send size) = send-did a size
 did a (tick time) = tick-did a time
+did a (announce list count inbound keymat buffer) = announce-did a list count inbound keymat buffer
 
 -- ---- demand 1
+-- an announcement that is not accepted is refused
+refused-is : (o : Outcome) → isAccepted (ofOutcome o) ≡ false → isRefused o ≡ true
+refused-is Accepted e = sym e
+refused-is (Refused r) e = refl
+
 -- "writes nothing in the reply buffer": of each call, whatever it is lent
 refused-unwritten : (a : Association) (c : Call) → isAccepted (answers a c) ≡ false → lentAfter a c ≡ lent c
 refused-unwritten a (message packet authentic nonces eight buffer) e =
@@ -244,6 +278,9 @@ refused-unwritten a (message packet authentic nonces eight buffer) e =
 refused-unwritten a (arrival size) e = refl
 refused-unwritten a (send size) e = refl
 refused-unwritten a (tick time) e = refl
+refused-unwritten a (announce list count inbound keymat buffer) e =
+    ap (λ (b : List ℕ). b ∷ [])
+    (refused-buffer a list count inbound keymat buffer (refused-is (announcements.handled a list count inbound keymat (length buffer) .outcome) e))
 
 -- what is not accepted is a refusal
 abbrev reasonOf : (r : Answered) → isAccepted r ≡ false → Refusal

@@ -13,8 +13,8 @@ use Rattle.octets.specs.Records as records
 use Rattle.address.specs.declared.Address.{Address}
 use Rattle.address.specs.Rules.{sameAddress}
 use Rattle.packet.specs.declared.Message.{Message}
-use Rattle.packet.specs.declared.Message.the-variants.{Refused, Move, Reply}
-use Rattle.packet.specs.Readings.{readingOf}
+use Rattle.packet.specs.declared.Message.the-variants.{Refused, Move, Reply, PeerCheck}
+use Rattle.packet.specs.Readings.{readingOf, opaqueOf}
 use Rattle.packet.proofs.Listed.{countIn, few-listed}
 use Rattle.locator.specs.declared.ListedLocator.{ListedLocator}
 use Rattle.locator_set.specs.Sets.{setLimit}
@@ -31,9 +31,9 @@ use Rattle.association.specs.Start.{refusal16, noAssociation, started, startOf}
 use Rattle.association.proofs.Sound.{Formed}
 use Rattle.association.proofs.Started.{started-formed, started-status}
 use Rattle.update.specs.Messages.{Handled, handleMessage}
-use Rattle.update.proofs.Cases.{reply-ends, move-ends, message-ends}
+use Rattle.update.proofs.Cases.{reply-ends, move-ends, check-ends, message-ends}
 use Rattle.update.proofs.Listed.{move-lists}
-use Rattle.history.specs.Calls.{Call, message, arrival, send, tick, ofMessage, answers, returned, isAccepted, isRepeat, Step, stepOf, history, after}
+use Rattle.history.specs.Calls.{Call, message, arrival, send, tick, announce, ofMessage, answers, returned, isAccepted, isRepeat, Step, stepOf, history, after}
 use Rattle.history.specs.Ledger.{ledger, held, entriesOf, lastOf, creditHeld}
 use Rattle.history.specs.Words.{echoed, lists, setIn, retires, leaves, outstandingFrom, outstanding}
 use Rattle.history.specs.Demand.{Verifies, ledgerOf, next, Demand3}
@@ -122,22 +122,25 @@ revived-none x a c dead active =
 abbrev LeavesListed : Address → (set : List ListedLocator) → Handled → Type 0
 LeavesListed x set h = isHeeded (ofMessage (h .outcome)) ≡ true → isListed x set ≡ true → isDead (statusIn x (h .left .slots)) ≡ false
 
-message-lists : (x : Address) (a : Association) (g : Message) (listed : List ListedLocator) (nonces : List ℕ) → countIn g ≤ setLimit → Formed a →
-    LeavesListed x (setIn g listed) (handleMessage a g listed nonces)
+message-lists : (x : Address) (a : Association) (packet : List ℕ) (g : Message) (listed : List ListedLocator) (nonces : List ℕ) → countIn g ≤ setLimit → Formed a →
+    LeavesListed x (setIn g listed) (handleMessage a packet g listed nonces)
 unfolding records.some
-message-lists x a (Refused why) listed nonces few p = λ h l. apart (sym h)
-message-lists x a (Reply e) listed nonces few p = reply-ends (LeavesListed x []) a (λ n h. apart (sym h)) e (λ h l. apart (sym l))
-message-lists x a (Move m) listed nonces few p =
+message-lists x a packet (Refused why) listed nonces few p = λ h l. apart (sym h)
+message-lists x a packet (PeerCheck c) listed nonces few p =
+    check-ends (LeavesListed x []) a (λ n h. apart (sym h)) (c .id) (opaqueOf packet c) (λ q h. apart (sym h)) (λ q h l. apart (sym l))
+message-lists x a packet (Reply e) listed nonces few p = reply-ends (LeavesListed x []) a (λ n h. apart (sym h)) e (λ h l. apart (sym l))
+message-lists x a packet (Move m) listed nonces few p =
     move-ends (LeavesListed x (take (m .count) listed)) a (λ n h. apart (sym h)) m (take (m .count) listed) nonces (λ h. apart (sym h))
     (λ q r h l. move-lists x a m listed nonces few p l)
 
 lists-live : (x : Address) (a : Association) (c : Call) → Formed a → isHeeded (answers a c) ≡ true → lists x c ≡ true → isDead (statusIn x (returned a c .slots)) ≡ false
 lists-live x a (message packet authentic nonces eight buffer) p =
     message-ends (LeavesListed x (setIn (readingOf packet .message) (readingOf packet .listed))) a (λ n h. apart (sym h)) packet authentic nonces (length buffer)
-    (λ q r s. message-lists x a (readingOf packet .message) (readingOf packet .listed) nonces (few-listed packet) p)
+    (λ q r s. message-lists x a packet (readingOf packet .message) (readingOf packet .listed) nonces (few-listed packet) p)
 lists-live x a (arrival size) p = λ h l. apart (sym l)
 lists-live x a (send size) p = λ h l. apart (sym l)
 lists-live x a (tick time) p = λ h l. apart (sym l)
+lists-live x a (announce list count inbound keymat buffer) p = λ h l. apart (sym l)
 
 not-dead : (o : Option Status) → isDead o ≡ false → (o ≢ none) × (o ≢ some Deprecated)
 not-dead o p =

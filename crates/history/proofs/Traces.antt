@@ -13,8 +13,9 @@ use Rattle.locator.specs.declared.ListedLocator.{ListedLocator}
 use Rattle.packet.specs.declared.EchoResponse.{EchoResponse}
 use Rattle.packet.specs.declared.EchoResponse.the-variants.{Absent, Nonce, OtherLength}
 use Rattle.packet.specs.declared.MoveFields.{MoveFields}
+use Rattle.packet.specs.Readings.{opaqueOf}
 use Rattle.packet.specs.declared.Message.{Message}
-use Rattle.packet.specs.declared.Message.the-variants.{Refused, Move, Reply}
+use Rattle.packet.specs.declared.Message.the-variants.{Refused, Move, Reply, PeerCheck}
 use Rattle.slot.specs.declared.Check.{Check}
 use Rattle.slot.specs.declared.Status.{Status}
 use Rattle.slot.specs.declared.Status.the-variants.{Unverified, Active, Deprecated}
@@ -27,7 +28,7 @@ use Rattle.readdress.proofs.Live.{isDead, nonceHeld}
 use Rattle.readdress.proofs.Turned.{move-verifies, move-revives-none, move-nonce, move-keeps-nonce, reply-verifies, reply-revives-none, reply-keeps-nonce}
 use Rattle.association.specs.declared.Association.{Association}
 use Rattle.update.specs.Messages.{Handled, differs, placement, afterMove, replied, moved, handleMessage}
-use Rattle.update.proofs.Cases.{reply-ends, move-ends}
+use Rattle.update.proofs.Cases.{reply-ends, move-ends, check-ends}
 use Rattle.history.specs.Calls.{Answered, ofMessage, isAccepted, isRepeat}
 use Rattle.history.specs.Words.{nonceOf, echoIn, retiredBy, takenBy, whileUnverified}
 
@@ -125,12 +126,15 @@ TracedBy x a g listed nonces h =
     Traced (statusIn x (a .slots)) (statusIn x (h .left .slots)) (cond (isHeeded (ofMessage (h .outcome))) (takenBy x a g listed nonces) none) (echoIn g)
     (retiredBy x a g listed) (isHeeded (ofMessage (h .outcome)))
 
-pub traced-message : (x : Address) (a : Association) (g : Message) (listed : List ListedLocator) (nonces : List ℕ) →
-    TracedBy x a g listed nonces (handleMessage a g listed nonces)
-traced-message x a (Refused why) listed nonces = traced-unheeded (statusIn x (a .slots)) none false
-traced-message x a (Reply e) listed nonces =
+pub traced-message : (x : Address) (a : Association) (packet : List ℕ) (g : Message) (listed : List ListedLocator) (nonces : List ℕ) →
+    TracedBy x a g listed nonces (handleMessage a packet g listed nonces)
+traced-message x a packet (Refused why) listed nonces = traced-unheeded (statusIn x (a .slots)) none false
+traced-message x a packet (PeerCheck c) listed nonces =
+    check-ends (TracedBy x a (PeerCheck c) listed nonces) a (λ n. traced-unheeded (statusIn x (a .slots)) none false) (c .id) (opaqueOf packet c)
+    (λ q. traced-unheeded (statusIn x (a .slots)) none false) (λ q. traced-still (statusIn x (a .slots)) true)
+traced-message x a packet (Reply e) listed nonces =
     reply-ends (TracedBy x a (Reply e) listed nonces) a (λ n. traced-unheeded (statusIn x (a .slots)) (nonceOf e) false) e (traced-reply x a e)
-traced-message x a (Move m) listed nonces =
+traced-message x a packet (Move m) listed nonces =
     let set = take (m .count) listed in
     let still = traced-unheeded (statusIn x (a .slots)) (nonceOf (m .echo)) (differs a m || not (isListed x set)) in
     move-ends (TracedBy x a (Move m) listed nonces) a (λ n. still) m set nonces still (λ q r. traced-move x a m set nonces)

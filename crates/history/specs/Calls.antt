@@ -14,15 +14,19 @@ use Rattle.payload.specs.Calls.{arrivalOf, sendOf}
 use Rattle.clock.specs.Ticks.{tickOf}
 use Rattle.reply_form.specs.Replies.{nonceCount}
 use Rattle.update.specs.declared.MessageOutcome.{MessageOutcome}
-use Rattle.update.specs.declared.MessageOutcome.the-variants.{Moved, Replied, Repeated, Declined}
+use Rattle.update.specs.declared.MessageOutcome.the-variants.{Moved, Replied, Responded, Repeated, Declined}
 use Rattle.update.specs.Messages.{messageOf, bufferAfter}
+use Rattle.announcement.specs.declared.OwnLocator.{OwnLocator}
+use Rattle.announcement.specs.Announcements as announcements
 
--- a call with its inputs. A message brings the packet's bytes, the mark, "eight nonces", and a lent reply buffer of any length
+-- a call with its inputs. A message brings the packet's bytes, the mark, "eight nonces", and a lent reply buffer of any length; an announcement our list, how
+-- many of its entries count, the new inbound SPI, the KEYMAT Index, and a lent buffer
 pub data Call : Type 0 where
   message : (packet : List ℕ) (authentic : Bool) (nonces : List ℕ) (eight : length nonces ≡ nonceCount) (buffer : List ℕ) → Call
   arrival : (size : ℕ) → Call
   send : (size : ℕ) → Call
   tick : (time : ℕ) → Call
+  announce : (list : List OwnLocator) (count inbound keymat : ℕ) (buffer : List ℕ) → Call
 
 -- what a call answers: a refusal; that it is accepted; for a message, that it is a repeat; for a send, the slot that it is granted
 pub data Answered : Type 0 where
@@ -31,7 +35,7 @@ pub data Answered : Type 0 where
   repeated : Answered
   grantedTo : (slot : ℕ) → Answered
 
--- what the answer to an arrival or a tick says
+-- what the answer to an arrival, a tick or an announcement says
 abbrev pub ofOutcome : Outcome → Answered
 ofOutcome Accepted = done
 ofOutcome (Refused r) = refusedBy r
@@ -45,6 +49,7 @@ ofSend (Denied r) = refusedBy r
 abbrev pub ofMessage : MessageOutcome → Answered
 ofMessage Moved = done
 ofMessage Replied = done
+ofMessage Responded = done
 ofMessage Repeated = repeated
 ofMessage (Declined r) = refusedBy r
 
@@ -54,6 +59,7 @@ answers a (message packet authentic nonces eight buffer) = ofMessage (messageOf 
 answers a (arrival size) = ofOutcome (arrivalOf a size .outcome)
 answers a (send size) = ofSend (sendOf a size .outcome)
 answers a (tick time) = ofOutcome (tickOf a time .outcome)
+answers a (announce list count inbound keymat buffer) = ofOutcome (announcements.announcementOf a list count inbound keymat buffer .outcome)
 
 -- "the one returned": the association after the call
 abbrev pub returned : Association → Call → Association
@@ -61,13 +67,15 @@ returned a (message packet authentic nonces eight buffer) = messageOf a packet a
 returned a (arrival size) = arrivalOf a size .association
 returned a (send size) = sendOf a size .association
 returned a (tick time) = tickOf a time .association
+returned a (announce list count inbound keymat buffer) = announcements.announcementOf a list count inbound keymat buffer .association
 
--- the buffers that the host lends to the call: a message's "reply buffer"
+-- the buffers that the host lends to the call: a message's "reply buffer", and an announcement's "lent buffer"
 abbrev pub lent : Call → List (List ℕ)
 lent (message packet authentic nonces eight buffer) = buffer ∷ []
 lent (arrival size) = []
 lent (send size) = []
 lent (tick time) = []
+lent (announce list count inbound keymat buffer) = buffer ∷ []
 
 -- what they hold after the call
 abbrev pub lentAfter : Association → Call → List (List ℕ)
@@ -75,6 +83,7 @@ lentAfter a (message packet authentic nonces eight buffer) = bufferAfter a packe
 lentAfter a (arrival size) = []
 lentAfter a (send size) = []
 lentAfter a (tick time) = []
+lentAfter a (announce list count inbound keymat buffer) = announcements.bufferAfter a list count inbound keymat buffer ∷ []
 
 -- "Accepted: answered without a refusal number". "A repeat is answered Repeated."
 abbrev pub isAccepted : Answered → Bool

@@ -28,7 +28,7 @@ use Rattle.history.specs.ExamplesUnfolded.{sequences}
 
 -- ---- packets in hex
 -- a packet with this header length
-abbrev packet : (h : ℕ) → (parameters : List ℕ) → List ℕ
+abbrev pub packet : (h : ℕ) → (parameters : List ℕ) → List ℕ
 packet h parameters = 0x3b ∷ h ∷ 0x10 ∷ 0x21 ∷ replicate 36 0 ++ parameters
 
 -- ESP_INFO from the SPI 0x2001 to this one, SEQ, ECHO_RESPONSE_SIGNED

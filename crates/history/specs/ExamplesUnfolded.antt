@@ -10,8 +10,8 @@ use Rattle.frame.specs.Parameters.{falls}
 use Rattle.frame.specs.Survey.{occurs}
 use Rattle.locator.specs.Locators.{illForm}
 use Rattle.locator_set.specs.Sets as sets
-use Rattle.packet.specs.Kinds.{isMove, isReply}
-use Rattle.packet.specs.Readings.{kindOf, readingOf}
+use Rattle.packet.specs.Kinds.{isMove, isReply, isCheck}
+use Rattle.packet.specs.Readings.{opaqueOf, kindOf, readingOf}
 use Rattle.slot.specs.Found.{statusIn}
 use Rattle.slot.specs.Clashes.{clash}
 use Rattle.slots.specs.Rules.{clashing}
@@ -25,8 +25,10 @@ use Rattle.readdress.specs.Echoes.{verifyAll}
 use Rattle.readdress.specs.Steps.{rebind, entryFor, renewAll, retireAll, placeAll, markedSlot}
 use Rattle.readdress.specs.Checks.{checkCount, checked, checkFor, twice}
 use Rattle.readdress.specs.Moves.{settled, placed}
-use Rattle.reply_form.specs.Replies.{checksBytes, moveBytes}
-use Rattle.update.specs.Messages.{afterMove, handleReply, handleMove, handled}
+use Rattle.reply_form.specs.Replies.{checksBytes, moveBytes, responseBytes}
+use Rattle.update.specs.Messages.{afterMove, handleReply, handleMove, handleCheck, handled}
+use Rattle.announcement.specs.Written.{entryBytes, setBody, announcementBytes}
+use Rattle.announcement.specs.Announcements as announcements
 use Rattle.history.specs.Calls.{history, after}
 use Rattle.history.specs.Ledger.{ledger, held, arrivedIn, grantedIn, ageingsIn, NoArrival}
 use Rattle.history.specs.Words.{outstandingFrom}
@@ -34,9 +36,10 @@ use Rattle.history.specs.Words.{outstandingFrom}
 -- to unfold this is to unfold whatever its own line names; its value means nothing
 unfoldable pub calls : ℕ
 unfolding
-    records some bytesOf legal refusedType wrongLength parameterBytes falls occurs illForm sets.twice sets.marks isMove isReply kindOf readingOf
+    records some bytesOf legal refusedType wrongLength parameterBytes falls occurs illForm sets.twice sets.marks isMove isReply isCheck opaqueOf kindOf readingOf
     statusIn clash clashing lowest pathOf agedBy refusal0 startOf arrivalOf sendOf tickOf verifyAll rebind entryFor renewAll retireAll placeAll
-    markedSlot checkCount checked checkFor twice settled placed checksBytes moveBytes afterMove handleReply handleMove handled
+    markedSlot checkCount checked checkFor twice settled placed checksBytes moveBytes responseBytes afterMove handleReply handleMove handleCheck handled
+    entryBytes setBody announcementBytes announcements.afterAnnouncement announcements.handled
 calls = 0
 
 -- the same, for sequences of calls

@@ -7,7 +7,7 @@ use Rattle.slot.specs.Found.{statusAt, isUnverified, foundAs}
 use Rattle.credit.specs.Credit.{credited}
 use Rattle.credit.specs.Clock.{ageings, agedOnce, lastAgeing}
 use Rattle.association.specs.declared.Association.{Association}
-use Rattle.history.specs.Calls.{Call, message, arrival, send, tick, Answered, refusedBy, done, repeated, grantedTo, isAccepted, Step}
+use Rattle.history.specs.Calls.{Call, message, arrival, send, tick, announce, Answered, refusedBy, done, repeated, grantedTo, isAccepted, Step}
 
 -- an accepted arrival, a grant to UNVERIFIED, an ageing
 pub data Entry : Type 0 where
@@ -30,6 +30,7 @@ entriesOf last found (message packet authentic nonces eight buffer) r = []
 entriesOf last found (arrival size) r = cond (isAccepted r) (arrived size ∷ []) []
 entriesOf last found (send size) r = grantOf found size r
 entriesOf last found (tick time) r = cond (isAccepted r) (replicate (ageings last time) ageing) []
+entriesOf last found (announce list count inbound keymat buffer) r = []
 
 -- the time of the last ageing after a call: it moves by the clock rule and "the accepted ticks' times"
 abbrev pub lastOf : (last : ℕ) → Call → Answered → ℕ
@@ -37,6 +38,7 @@ lastOf last (message packet authentic nonces eight buffer) r = last
 lastOf last (arrival size) r = last
 lastOf last (send size) r = last
 lastOf last (tick time) r = cond (isAccepted r) (lastAgeing last time) last
+lastOf last (announce list count inbound keymat buffer) r = last
 
 -- the ledger of a history, "reckoned from the time of last ageing held at the sequence's beginning"
 unfoldable pub ledger : (last : ℕ) → List Step → List Entry

@@ -4,4 +4,5 @@ pub mod Words
 pub mod Demand
 pub mod ExamplesUnfolded
 pub mod Examples
+pub mod ExamplesAnnounced
 pub mod ExamplesClaim

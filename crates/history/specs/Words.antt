@@ -9,7 +9,7 @@ use Rattle.locator.specs.declared.ListedLocator.{ListedLocator}
 use Rattle.packet.specs.declared.EchoResponse.{EchoResponse}
 use Rattle.packet.specs.declared.EchoResponse.the-variants.{Absent, Nonce, OtherLength}
 use Rattle.packet.specs.declared.Message.{Message}
-use Rattle.packet.specs.declared.Message.the-variants.{Refused, Move, Reply}
+use Rattle.packet.specs.declared.Message.the-variants.{Refused, Move, Reply, PeerCheck}
 use Rattle.packet.specs.Readings.{readingOf}
 use Rattle.slot.specs.declared.Status.{Status}
 use Rattle.slot.specs.declared.Status.the-variants.{Unverified, Active, Deprecated}
@@ -18,7 +18,7 @@ use Rattle.readdress.specs.Steps.{isListed}
 use Rattle.readdress.specs.Checks.{nonceTaken}
 use Rattle.association.specs.declared.Association.{Association}
 use Rattle.update.specs.Messages.{differs, placement}
-use Rattle.history.specs.Calls.{Call, message, arrival, send, tick, Answered, isAccepted, isRepeat, Step}
+use Rattle.history.specs.Calls.{Call, message, arrival, send, tick, announce, Answered, isAccepted, isRepeat, Step}
 
 -- "Finds and leaves: the status of the slot that holds the address, in the association handed in": none where it is not held
 abbrev pub finds : Address → Step → Option Status
@@ -34,6 +34,7 @@ isAuthentic (message packet authentic nonces eight buffer) = authentic
 isAuthentic (arrival size) = false
 isAuthentic (send size) = false
 isAuthentic (tick time) = false
+isAuthentic (announce list count inbound keymat buffer) = false
 
 -- ---- what a message echoes
 -- the nonce of an echo response of 8 bytes
@@ -47,6 +48,7 @@ abbrev pub echoIn : Message → Option ℕ
 echoIn (Refused r) = none
 echoIn (Move m) = nonceOf (m .echo)
 echoIn (Reply e) = nonceOf e
+echoIn (PeerCheck c) = none
 
 -- the nonce that the call echoes, by the packet's bytes
 abbrev pub echoed : Call → Option ℕ
@@ -54,6 +56,7 @@ echoed (message packet authentic nonces eight buffer) = echoIn (readingOf packet
 echoed (arrival size) = none
 echoed (send size) = none
 echoed (tick time) = none
+echoed (announce list count inbound keymat buffer) = none
 
 -- ---- what a Move lists and retires
 -- the locators of the set, where a Move was read
@@ -61,6 +64,7 @@ abbrev pub setIn : Message → (listed : List ListedLocator) → List ListedLoca
 setIn (Refused r) listed = []
 setIn (Move m) listed = take (m .count) listed
 setIn (Reply e) listed = []
+setIn (PeerCheck c) listed = []
 
 -- the call is a message that reads as a Move whose set lists the address, whatever its answer
 abbrev pub lists : Address → Call → Bool
@@ -68,12 +72,14 @@ lists x (message packet authentic nonces eight buffer) = isListed x (setIn (read
 lists x (arrival size) = false
 lists x (send size) = false
 lists x (tick time) = false
+lists x (announce list count inbound keymat buffer) = false
 
 -- "A Move retires an address if NEW SPI is not the outbound SPI it finds, or its set lacks the address. A Reply retires none."
 abbrev pub retiredBy : Address → (found : Association) → Message → (listed : List ListedLocator) → Bool
 retiredBy x found (Refused r) listed = false
 retiredBy x found (Move m) listed = differs found m || not (isListed x (take (m .count) listed))
 retiredBy x found (Reply e) listed = false
+retiredBy x found (PeerCheck c) listed = false
 
 -- the same, of a call, whatever its answer: no call but a message is a Move
 abbrev pub retires : Address → (found : Association) → Call → Bool
@@ -81,6 +87,7 @@ retires x found (message packet authentic nonces eight buffer) = retiredBy x fou
 retires x found (arrival size) = false
 retires x found (send size) = false
 retires x found (tick time) = false
+retires x found (announce list count inbound keymat buffer) = false
 
 -- ---- the nonce outstanding
 -- "the one taken for it": by what was read of a packet
@@ -89,6 +96,7 @@ takenBy x found (Refused r) listed nonces = none
 takenBy x found (Move m) listed nonces =
     nonceTaken x (take (m .count) listed) nonces (placement found m (take (m .count) listed) .slots)
 takenBy x found (Reply e) listed nonces = none
+takenBy x found (PeerCheck c) listed nonces = none
 
 -- "by the .. accepted Move that gave it a check": a repeat gives none
 abbrev pub taken : Address → (found : Association) → Call → Answered → Option ℕ
@@ -97,6 +105,7 @@ taken x found (message packet authentic nonces eight buffer) r =
 taken x found (arrival size) r = none
 taken x found (send size) r = none
 taken x found (tick time) r = none
+taken x found (announce list count inbound keymat buffer) r = none
 
 -- "while that Move and every call since left it UNVERIFIED"
 abbrev pub whileUnverified : (left : Option Status) → Option ℕ → Option ℕ
