@@ -1,0 +1,9 @@
+pub mod Wire
+pub mod Runs
+pub mod Formed
+pub mod Accepted
+pub mod Read
+pub mod Moves
+pub mod Parts
+pub mod Entries
+pub mod Written

@@ -1,0 +1,5 @@
+pub mod Each
+pub mod Wire
+pub mod Read
+pub mod Written
+pub mod Examples
