@@ -9,12 +9,18 @@
 //! arrival SIZE
 //! send SIZE
 //! tick TIME
+//! announcement BUFFER INBOUND KEYMAT
 //! ```
 //!
 //! Numbers are decimal, or hexadecimal after `0x`; every `_` in one is
 //! skipped. MARK is `authentic` or `forged`. The eight nonces are NONCE and the
 //! seven numbers after it, wrapping. Indented lines after `message` are the
-//! packet: hex digits in groups, an even number in each.
+//! packet: hex digits in groups, an even number in each. Each indented line
+//! after `announcement` is an entry of the list:
+//!
+//! ```text
+//! LOCATOR_TYPE TRAFFIC_TYPE LIFETIME P ADDRESS
+//! ```
 
 use std::net::Ipv6Addr;
 
@@ -23,6 +29,9 @@ const SECTION_LIMIT: usize = 65_535;
 
 /// The nonces that each message brings.
 const NONCES: u64 = 8;
+
+const MESSAGE: u64 = 1;
+const ANNOUNCEMENT: u64 = 5;
 
 /// The three sections of one record.
 struct Record {
@@ -41,9 +50,8 @@ impl Record {
         }
     }
 
-    /// Only a message has nonces, and only a message takes packet lines.
-    fn is_message(&self) -> bool {
-        !self.nonces.is_empty()
+    fn call(&self) -> u64 {
+        self.numbers[0]
     }
 
     fn write(&self, trace: &mut Vec<u8>) {
@@ -55,7 +63,7 @@ impl Record {
 }
 
 /// Writes a section after its count of bytes. No section passes the limit:
-/// packets are held to it line by line, the others are short.
+/// packets and lists are held to it line by line, the others are short.
 fn write_section(section: &[u8], trace: &mut Vec<u8>) {
     let count = section.len() as u16;
     trace.extend_from_slice(&count.to_be_bytes());
@@ -82,7 +90,11 @@ fn read_line(code: &str, records: &mut Vec<Record>) -> Result<(), String> {
         return Ok(());
     }
     if code.starts_with(char::is_whitespace) {
-        return read_packet_line(code, records.last_mut());
+        return match records.last_mut() {
+            Some(record) if record.call() == MESSAGE => read_packet_line(code, record),
+            Some(record) if record.call() == ANNOUNCEMENT => read_entry(code, record),
+            _ => Err("indented line that follows no message or announcement".to_string()),
+        };
     }
     let words: Vec<&str> = code.split_whitespace().collect();
     records.push(read_call(&words)?);
@@ -99,7 +111,13 @@ fn read_call(words: &[&str]) -> Result<Record, String> {
         ["arrival", size] => Ok(Record::plain(vec![2, number(size)?])),
         ["send", size] => Ok(Record::plain(vec![3, number(size)?])),
         ["tick", time] => Ok(Record::plain(vec![4, number(time)?])),
-        [word @ ("start" | "message" | "arrival" | "send" | "tick"), ..] => {
+        ["announcement", buffer, inbound, keymat] => Ok(Record::plain(vec![
+            ANNOUNCEMENT,
+            number(buffer)?,
+            number(inbound)?,
+            number(keymat)?,
+        ])),
+        [word @ ("start" | "message" | "arrival" | "send" | "tick" | "announcement"), ..] => {
             Err(format!("wrong number of words after `{word}`"))
         }
         _ => Err(format!("unknown call `{}`", words[0])),
@@ -111,12 +129,15 @@ fn read_start(arguments: [&str; 4], address: &str) -> Result<Record, String> {
     for argument in arguments {
         numbers.push(number(argument)?);
     }
-    let address: Ipv6Addr = address
-        .parse()
-        .map_err(|_| format!("`{address}` is not an IPv6 address"))?;
     let mut record = Record::plain(numbers);
-    record.bytes = address.octets().to_vec();
+    record.bytes = read_address(address)?.to_vec();
     Ok(record)
+}
+
+fn read_address(word: &str) -> Result<[u8; 16], String> {
+    let address: Result<Ipv6Addr, _> = word.parse();
+    let address = address.map_err(|_| format!("`{word}` is not an IPv6 address"))?;
+    Ok(address.octets())
 }
 
 fn read_message(mark: &str, buffer: &str, nonce: &str) -> Result<Record, String> {
@@ -125,7 +146,7 @@ fn read_message(mark: &str, buffer: &str, nonce: &str) -> Result<Record, String>
         "forged" => 0,
         _ => return Err(format!("`{mark}` is neither `authentic` nor `forged`")),
     };
-    let mut record = Record::plain(vec![1, authentic, number(buffer)?]);
+    let mut record = Record::plain(vec![MESSAGE, authentic, number(buffer)?]);
     let first = number(nonce)?;
     record.nonces = (0..NONCES)
         .flat_map(|step| first.wrapping_add(step).to_be_bytes())
@@ -133,11 +154,26 @@ fn read_message(mark: &str, buffer: &str, nonce: &str) -> Result<Record, String>
     Ok(record)
 }
 
+/// Adds an entry to the list of an announcement: its numbers stand before the
+/// last two, inbound SPI and KEYMAT Index.
+fn read_entry(code: &str, record: &mut Record) -> Result<(), String> {
+    let words: Vec<&str> = code.split_whitespace().collect();
+    let [locator_type, traffic, lifetime, p, address] = words[..] else {
+        return Err("an entry has five words".to_string());
+    };
+    for word in [locator_type, traffic, lifetime, p] {
+        let place = record.numbers.len() - 2;
+        record.numbers.insert(place, number(word)?);
+    }
+    record.bytes.extend(read_address(address)?);
+    if record.numbers.len() * 8 > SECTION_LIMIT {
+        return Err(format!("list longer than {SECTION_LIMIT} bytes"));
+    }
+    Ok(())
+}
+
 /// Adds a line of packet bytes to the message it belongs to.
-fn read_packet_line(code: &str, last: Option<&mut Record>) -> Result<(), String> {
-    let record = last
-        .filter(|record| record.is_message())
-        .ok_or("packet bytes that follow no message")?;
+fn read_packet_line(code: &str, record: &mut Record) -> Result<(), String> {
     for group in code.split_whitespace() {
         read_group(group, &mut record.bytes)?;
     }
@@ -258,6 +294,37 @@ mod tests {
     }
 
     #[test]
+    fn announcement_gathers_its_entries() {
+        let text = concat!(
+            "announcement 256 0x3003 128\n",
+            "  1 0 600 1 2001:db8::1 # P\n\t0 2 1 0 ::2\n",
+            "announcement 0 1 0\n",
+        );
+        let mut addresses = vec![0x20, 1, 0x0d, 0xb8, 0, 0, 0, 0, 0, 0, 0, 0, 0, 0, 0, 1];
+        addresses.extend([0; 15]);
+        addresses.push(2);
+        let numbers = [5, 256, 1, 0, 600, 1, 0, 2, 1, 0, 0x3003, 128];
+        let want = [
+            record(&numbers, &addresses, &[]),
+            record(&[5, 0, 1, 0], &[], &[]),
+        ];
+        assert_eq!(assemble(text), Ok(want.concat()));
+    }
+
+    #[test]
+    fn list_length_limit() {
+        let entries = |count| "  0 0 1 0 ::2\n".repeat(count);
+        let most = (SECTION_LIMIT / 8 - 4) / 4;
+        let text = format!("announcement 0 1 0\n{}", entries(most));
+        let length = 2 + 32 + 32 * most + 2 + 16 * most + 2;
+        assert_eq!(assemble(&text).unwrap().len(), length);
+        let text = format!("announcement 0 1 0\n{}", entries(most + 1));
+        let line = most + 2;
+        let want = format!("line {line}: list longer than 65535 bytes");
+        assert_eq!(fault(&text), want);
+    }
+
+    #[test]
     fn nonces_wrap() {
         let top = u64::MAX;
         let want = record(&[1, 1, 384], &[], &[top - 1, top, 0, 1, 2, 3, 4, 5]);
@@ -311,17 +378,28 @@ mod tests {
             fault("message true 384 0"),
             "line 1: `true` is neither `authentic` nor `forged`"
         );
+        assert_eq!(
+            fault("announcement 1 2"),
+            "line 1: wrong number of words after `announcement`"
+        );
+        for entry in ["1", "0 0 1 ::1", "0 0 1 0 0 ::1"] {
+            let text = format!("announcement 1 2 3\n {entry}");
+            assert_eq!(fault(&text), "line 2: an entry has five words");
+        }
+        let text = "announcement 1 2 3\n 0 0 1 0 1";
+        assert_eq!(fault(text), "line 2: `1` is not an IPv6 address");
     }
 
     #[test]
-    fn packet_lines_need_a_message() {
-        assert_eq!(fault("  00"), "line 1: packet bytes that follow no message");
-        assert_eq!(
-            fault("send 1\n  00"),
-            "line 2: packet bytes that follow no message"
-        );
-        let text = "start 1 2 3 4 2001:db8::1\n  00";
-        assert_eq!(fault(text), "line 2: packet bytes that follow no message");
+    fn indented_lines_need_a_message_or_an_announcement() {
+        let reason = "indented line that follows no message or announcement";
+        for (line, text) in [
+            (1, "  00"),
+            (2, "send 1\n  00"),
+            (2, "start 1 2 3 4 2001:db8::1\n  00"),
+        ] {
+            assert_eq!(fault(text), format!("line {line}: {reason}"));
+        }
     }
 
     #[test]

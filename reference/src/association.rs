@@ -75,18 +75,25 @@ impl Locator {
     }
 }
 
+/// An SPI that may not be used, by us or by the peer.
+pub fn is_unusable(spi: u32) -> bool {
+    spi == 0
+}
+
 /// Begins an association, or gives refusal 16.
 pub fn start(inputs: &StartInputs, notes: &mut Notes) -> Result<Association, u8> {
     let mut reasons = Reasons::default();
     let late = inputs.time >= TIME_LIMIT;
     reasons.add_if(late, 16, "refusal 16: time 2^40 or more");
-    reasons.add_if(inputs.outbound == 0, 16, "refusal 16: outbound SPI 0");
-    reasons.add_if(inputs.inbound == 0, 16, "refusal 16: inbound SPI 0");
+    let outbound = is_unusable(inputs.outbound);
+    reasons.add_if(outbound, 16, "refusal 16: outbound SPI 0");
+    let inbound = is_unusable(inputs.inbound);
+    reasons.add_if(inbound, 16, "refusal 16: inbound SPI 0");
     reasons.add_if(inputs.lifetime == 0, 16, "refusal 16: lifetime 0");
     if let Some(fault) = not_legal(&inputs.address) {
         reasons.add(16, clause_of(fault));
     }
-    if let Some(number) = reasons.lowest() {
+    if let Some(number) = reasons.first() {
         reasons.note_clause(notes);
         return Err(number);
     }
@@ -155,7 +162,7 @@ impl Association {
         reasons.add_if(size == 0, 13, "refusal 13: arrival of 0");
         let large = size > LARGEST_SIZE;
         reasons.add_if(large, 13, "refusal 13: arrival over 65,535");
-        if let Some(number) = reasons.lowest() {
+        if let Some(number) = reasons.first() {
             reasons.note_clause(notes);
             notes.add_if(size == 65_536, "refusal 13: arrival of 65,536");
             return Err(number);
@@ -175,13 +182,13 @@ impl Association {
     pub fn send(&mut self, size: u64, notes: &mut Notes) -> Result<usize, u8> {
         let path = self.path(true);
         let reasons = self.send_reasons(size, path);
-        let (None, Some((slot, choice))) = (reasons.lowest(), path) else {
+        let (None, Some((slot, choice))) = (reasons.first(), path) else {
             reasons.note_clause(notes);
             notes.add_if(size == 65_536, "refusal 13: send of 65,536");
             let also = |number| reasons.has(13) && reasons.has(number);
             notes.add_if(also(14), "order: refusal 13 before 14");
             notes.add_if(also(15), "order: refusal 13 before 15");
-            return Err(reasons.lowest().unwrap_or(14));
+            return Err(reasons.first().unwrap_or(14));
         };
         notes.add(choice);
         self.note_send(size, slot, notes);
@@ -260,7 +267,7 @@ impl Association {
         let early = time < self.time;
         reasons.add_if(early, 12, "refusal 12: before the stored time");
         reasons.add_if(time >= TIME_LIMIT, 12, "refusal 12: 2^40 or more");
-        if let Some(number) = reasons.lowest() {
+        if let Some(number) = reasons.first() {
             reasons.note_clause(notes);
             notes.add_if(time == TIME_LIMIT, "refusal 12: exactly 2^40");
             return Err(number);

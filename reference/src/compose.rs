@@ -1,10 +1,11 @@
 //! Writing packets and records, for the generators and the tests.
 
 use crate::packet::{
-    write_parameter, Listed, ACK, ECHO_RESPONSE_SIGNED, ESP_INFO, HEADER_LENGTH, LOCATOR_SET, SEQ,
+    esp_info_body, write_parameter, Listed, ACK, ECHO_REQUEST_SIGNED, ECHO_RESPONSE_SIGNED,
+    ESP_INFO, HEADER_LENGTH, LOCATOR_SET, SEQ,
 };
 use crate::reasons::Notes;
-use crate::record::{Call, MessageInputs, Sections, StartInputs};
+use crate::record::{AnnouncementInputs, Call, MessageInputs, Sections, StartInputs};
 use crate::replay::{Answer, Player};
 
 /// Type and body of a parameter to write.
@@ -48,12 +49,40 @@ impl MoveText {
     }
 }
 
+/// All that a Check says, to be written as a packet.
+#[derive(Clone, Debug)]
+pub struct CheckText {
+    /// KEYMAT Index, OLD SPI and NEW SPI of an ESP_INFO, if there is one.
+    pub info: Option<(u16, u32, u32)>,
+    pub update_id: u32,
+    /// The IDs of an ACK; none where there are no IDs.
+    pub acks: Vec<u32>,
+    pub opaque: Vec<u8>,
+    pub others: Vec<Written>,
+}
+
+impl CheckText {
+    /// The parameters, in rising order of type.
+    pub fn parameters(&self) -> Vec<Written> {
+        let mut parameters = vec![seq(self.update_id), echo_request(&self.opaque)];
+        if let Some((keymat, old_spi, new_spi)) = self.info {
+            parameters.push(esp_info(keymat, old_spi, new_spi));
+        }
+        if !self.acks.is_empty() {
+            parameters.push(ack(&self.acks));
+        }
+        parameters.extend(self.others.clone());
+        parameters.sort_by_key(|(kind, _)| *kind);
+        parameters
+    }
+
+    pub fn packet(&self) -> Vec<u8> {
+        packet(&self.parameters())
+    }
+}
+
 pub fn esp_info(keymat: u16, old_spi: u32, new_spi: u32) -> Written {
-    let mut body = vec![0, 0];
-    body.extend(keymat.to_be_bytes());
-    body.extend(old_spi.to_be_bytes());
-    body.extend(new_spi.to_be_bytes());
-    (ESP_INFO, body)
+    (ESP_INFO, esp_info_body(keymat, old_spi, new_spi))
 }
 
 pub fn locator_set(set: &[Listed]) -> Written {
@@ -81,17 +110,27 @@ pub fn ack(ids: &[u32]) -> Written {
     (ACK, ids.iter().flat_map(|id| id.to_be_bytes()).collect())
 }
 
+pub fn echo_request(opaque: &[u8]) -> Written {
+    (ECHO_REQUEST_SIGNED, opaque.to_vec())
+}
+
 pub fn echo_response(echo: &[u8]) -> Written {
     (ECHO_RESPONSE_SIGNED, echo.to_vec())
 }
 
 /// A packet with these parameters, in this order.
 pub fn packet(parameters: &[Written]) -> Vec<u8> {
+    let written = parameters
+        .iter()
+        .flat_map(|(kind, body)| write_parameter(*kind, body));
+    behind_header(&written.collect::<Vec<u8>>())
+}
+
+/// A packet whose parameters are these bytes.
+pub fn behind_header(parameters: &[u8]) -> Vec<u8> {
     let mut bytes = vec![0; HEADER_LENGTH];
     bytes[..4].copy_from_slice(&[59, 0, 16, 0x21]);
-    for (kind, body) in parameters {
-        bytes.extend(write_parameter(*kind, body));
-    }
+    bytes.extend(parameters);
     set_header_length(&mut bytes);
     bytes
 }
@@ -134,7 +173,23 @@ pub fn record_of(call: &Call) -> Sections {
         Call::Arrival { size } => sections(&[2, *size], &[], &[]),
         Call::Send { size } => sections(&[3, *size], &[], &[]),
         Call::Tick { time } => sections(&[4, *time], &[], &[]),
+        Call::Announcement(inputs) => announcement_record(inputs),
     }
+}
+
+fn announcement_record(inputs: &AnnouncementInputs) -> Sections {
+    let mut numbers = vec![5, inputs.buffer];
+    let mut addresses = Vec::new();
+    for entry in &inputs.list {
+        numbers.push(entry.locator_type.into());
+        numbers.push(entry.traffic.into());
+        numbers.push(entry.lifetime.into());
+        numbers.push(entry.preferred.into());
+        addresses.extend(entry.address);
+    }
+    numbers.push(inputs.inbound.into());
+    numbers.push(inputs.keymat.into());
+    sections(&numbers, &addresses, &[])
 }
 
 /// The bytes of a record in a trace.

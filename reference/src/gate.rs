@@ -1,16 +1,17 @@
 //! The trace that meets every case of the census: short runs of calls that lead
 //! to each case, then random calls.
 
+use crate::announcement::bytes_to_write;
 use crate::association::{Association, CREDIT_LIMIT, LARGEST_SIZE, TIME_LIMIT};
 use crate::compose::{
-    ack, echo_response, esp_info, locator, locator_set, packet, sections, seq, set_header_length,
-    MoveText, Tracer, Written,
+    ack, echo_request, echo_response, esp_info, locator, locator_set, packet, sections, seq,
+    set_header_length, CheckText, MoveText, Tracer, Written,
 };
 use crate::packet::{
     Listed, ACK, ECHO_RESPONSE_SIGNED, ESP_INFO, HIP_MAC, HIP_SIGNATURE, HOST_ID, LOCATOR_SET, SEQ,
 };
 use crate::random::{address, write_trace, NOT_LEGAL};
-use crate::record::{Call, MessageInputs, Sections, StartInputs};
+use crate::record::{AnnouncementInputs, Call, Entry, MessageInputs, Sections, StartInputs};
 
 /// Seeds and lengths of the random parts.
 const RANDOM_PARTS: [(u64, u64); 6] = [
@@ -34,6 +35,7 @@ pub fn trace() -> Vec<u8> {
     let mut script = Script::default();
     before_a_start(&mut script);
     malformed_records(&mut script);
+    malformed_announcements(&mut script);
     refused_starts(&mut script);
     buffers_and_marks(&mut script);
     headers(&mut script);
@@ -62,6 +64,18 @@ pub fn trace() -> Vec<u8> {
     ageing(&mut script);
     expiry(&mut script);
     end_of_time(&mut script);
+    opaque_lengths(&mut script);
+    parameters_of_checks(&mut script);
+    every_byte_of_a_check_changed(&mut script);
+    of_no_kind(&mut script);
+    ids_of_checks(&mut script);
+    unjudged_in_checks(&mut script);
+    refused_checks(&mut script);
+    lengths_of_lists(&mut script);
+    announced_values(&mut script);
+    faulty_lists(&mut script);
+    refused_announcements(&mut script);
+    announcements_between(&mut script);
     let mut bytes = script.tracer.bytes;
     for (seed, calls) in RANDOM_PARTS {
         write_trace(seed, calls, &mut bytes).expect("a vector takes all bytes");
@@ -102,6 +116,26 @@ fn with_traffic(traffic: u8, mut set: Vec<Listed>) -> Vec<Listed> {
         one.traffic = traffic;
     }
     set
+}
+
+/// A type 0 entry of our list.
+fn entry(n: u8) -> Entry {
+    Entry {
+        locator_type: 0,
+        traffic: 0,
+        lifetime: 60,
+        preferred: false,
+        address: number(n),
+    }
+}
+
+fn list_of(numbers: &[u8]) -> Vec<Entry> {
+    numbers.iter().map(|n| entry(*n)).collect()
+}
+
+/// Opaque bytes that are all different.
+fn opaque(length: usize) -> Vec<u8> {
+    (1..=length).map(|n| n as u8).collect()
 }
 
 #[derive(Default)]
@@ -184,6 +218,12 @@ impl Script {
         self.packet(packet(parameters));
     }
 
+    /// An Update ID of the peer that was not seen, if one is left.
+    fn next_id(&self) -> u32 {
+        let highest = self.association().peer_id;
+        highest.map_or(0, |id| id.saturating_add(1))
+    }
+
     /// A Move in order, with the next Update ID.
     fn text(&self, set: Vec<Listed>) -> MoveText {
         let association = self.association();
@@ -191,7 +231,7 @@ impl Script {
             keymat: 7,
             old_spi: association.outbound,
             new_spi: association.outbound,
-            update_id: association.peer_id.map_or(0, |id| id.saturating_add(1)),
+            update_id: self.next_id(),
             set,
             echo: None,
             acks: Vec::new(),
@@ -231,10 +271,44 @@ impl Script {
     fn echo(&mut self, nonce: u64) {
         self.parameters(&[echo_response(&nonce.to_be_bytes())]);
     }
+
+    /// A Check in order, with the next Update ID.
+    fn check_text(&self, opaque: Vec<u8>) -> CheckText {
+        let outbound = self.association().outbound;
+        CheckText {
+            info: Some((0, outbound, outbound)),
+            update_id: self.next_id(),
+            acks: vec![0],
+            opaque,
+            others: Vec::new(),
+        }
+    }
+
+    /// A Check with something changed.
+    fn check(&mut self, opaque: Vec<u8>, change: impl FnOnce(&mut CheckText)) {
+        let mut text = self.check_text(opaque);
+        change(&mut text);
+        self.packet(text.packet());
+    }
+
+    /// An announcement in order but for something changed; the buffer is exact.
+    fn announce(&mut self, list: Vec<Entry>, change: impl FnOnce(&mut AnnouncementInputs)) {
+        let mut inputs = AnnouncementInputs {
+            buffer: bytes_to_write(&list) as u64,
+            list,
+            inbound: self.association().inbound,
+            keymat: 0,
+        };
+        change(&mut inputs);
+        self.call(Call::Announcement(inputs));
+    }
 }
 
 fn before_a_start(s: &mut Script) {
+    s.record(sections(&[6], &[], &[]));
     s.record(sections(&[5], &[], &[]));
+    s.record(sections(&[5, 256, 1, 0], &[], &[]));
+    s.record(sections(&[5, 256, 0, 0, 60, 1, 1, 0], &number(1), &[]));
     s.arrive(1);
     s.send(1);
     s.tick(100);
@@ -250,7 +324,7 @@ fn malformed_records(s: &mut Script) {
     s.start();
     let place = number(1);
     let wide = 1 << 32;
-    for call in [5, 6, 255, 256, 1 << 32, u64::MAX] {
+    for call in [6, 7, 255, 256, 261, 1 << 32, u64::MAX] {
         s.record(sections(&[call, 1], &[], &[]));
     }
     s.record(sections(&[], &[], &[]));
@@ -308,6 +382,55 @@ fn malformed_records(s: &mut Script) {
         nonces: vec![2; 65_535],
     });
     s.record(sections(&[1, 1, 384], &good, &nonces));
+}
+
+/// Announcements in which something does not fit.
+fn malformed_announcements(s: &mut Script) {
+    s.start();
+    // An entry has four numbers; three stand around the list.
+    for count in 0..=12 {
+        let numbers = [&[5][..], &vec![1; count]].concat();
+        s.record(sections(&numbers, &number(1), &[]));
+    }
+    for entries in [1, 9] {
+        let mut numbers = vec![5, 256];
+        let mut addresses = Vec::new();
+        for n in 1..=entries as u8 {
+            numbers.extend([0, 0, 60, 0]);
+            addresses.extend(number(n));
+        }
+        numbers.extend([0x1002, 7]);
+        let last = numbers.len() - 1;
+        // Buffer, inbound SPI, KEYMAT Index and the last entry's numbers: the
+        // largest that fits, and larger ones.
+        for (place, limit) in [
+            (1, 65_535),
+            (last - 1, u64::from(u32::MAX)),
+            (last, 65_535),
+            (last - 5, 255),
+            (last - 4, 255),
+            (last - 3, u64::from(u32::MAX)),
+            (last - 2, 1),
+        ] {
+            for number in [limit, limit + 1, (1 << 32) + 1, u64::MAX] {
+                let mut changed = numbers.clone();
+                changed[place] = number;
+                s.record(sections(&changed, &addresses, &[]));
+            }
+        }
+        for length in [0, 1, 15, 17, 16 * entries - 1, 16 * entries + 1] {
+            let mut bytes = addresses.clone();
+            bytes.resize(length, 1);
+            s.record(sections(&numbers, &bytes, &[]));
+        }
+        for bytes in [&addresses[16..], &[addresses.clone(), vec![1; 16]].concat()] {
+            s.record(sections(&numbers, bytes, &[]));
+        }
+        s.record(sections(&numbers, &addresses, &[1]));
+        let mut record = sections(&numbers, &addresses, &[]);
+        record.nonces.push(0);
+        s.record(record);
+    }
 }
 
 fn refused_starts(s: &mut Script) {
@@ -446,12 +569,12 @@ fn every_byte_changed(s: &mut Script) {
     }
 }
 
-/// Types beside the known ones, 897, and all that are stepped over.
+/// Types beside the known ones, and all that are stepped over.
 fn other_types(s: &mut Script) {
     s.start();
     for kind in [
-        1, 63, 67, 191, 195, 387, 451, 703, 707, 895, 897, 899, 959, 963, 61503, 61507, 61695,
-        61699, 65535,
+        1, 63, 67, 191, 195, 387, 451, 703, 707, 895, 899, 959, 963, 61503, 61507, 61695, 61699,
+        65535,
     ] {
         s.changed(set_of(&[1]), |text| text.others.push((kind, vec![0; 8])));
     }
@@ -597,7 +720,7 @@ fn update_ids(s: &mut Script) {
     for run in ids {
         s.start();
         for (place, id) in run.iter().enumerate() {
-            let n = 1 + place as u8;
+            let n = 2 + place as u8;
             s.changed(set_of(&[1, n]), |text| text.update_id = *id);
         }
     }
@@ -718,7 +841,7 @@ fn nonces(s: &mut Script) {
     );
 }
 
-/// Messages for which several refusals hold: the lowest number answers.
+/// Messages for which several refusals hold: the one tried first answers.
 fn refusals_together(s: &mut Script) {
     s.start_with(&[1, 2]);
     s.list(set_of(&[1, 2]));
@@ -743,8 +866,8 @@ fn refusals_together(s: &mut Script) {
     // Refusal 3 judges all parameters before refusal 4 is tried.
     s.parameters(&[(1, vec![]), (SEQ, vec![0; 5])]);
     s.parameters(&[(1, vec![]), (ACK, vec![])]);
-    s.parameters(&[(897, vec![]), (2, vec![])]);
-    s.parameters(&[(897, vec![])]);
+    s.parameters(&[(899, vec![]), (2, vec![])]);
+    s.parameters(&[(899, vec![])]);
     s.changed(set_of(&[]), |text| text.others.push((3, vec![])));
     s.parameters(&[esp_info(0, 1, 1), locator_set(&[])]);
     s.parameters(&[locator_set(&set_of(&[1, 1])), seq(0)]);
@@ -892,29 +1015,32 @@ fn preferences(s: &mut Script) {
     s.changed(set_of(&[8]), |text| text.new_spi = 6);
 }
 
+/// Legal addresses beside those that are not.
+const LEGAL_EDGES: [&str; 20] = [
+    "fe00::",
+    "fe80::1",
+    "feff:ffff:ffff:ffff:ffff:ffff:ffff:ffff",
+    "::1",
+    "::100",
+    "100::",
+    "::ffff:223.255.255.255",
+    "::ffff:240.0.0.0",
+    "::ffff:0.0.0.1",
+    "::ffff:1.0.0.0",
+    "::ffff:255.255.255.254",
+    "::ffff:254.255.255.255",
+    "::ffff:127.0.0.1",
+    "::fffe:e000:1",
+    "::fffe:0:0",
+    "::fefe:e000:1",
+    "::e000:1",
+    "1::ffff:e000:1",
+    "::1:ffff:e000:1",
+    "::1:ffff:0:0",
+];
+
 fn legal_addresses(s: &mut Script) {
-    for text in [
-        "fe00::",
-        "fe80::1",
-        "feff:ffff:ffff:ffff:ffff:ffff:ffff:ffff",
-        "::1",
-        "::100",
-        "100::",
-        "::ffff:223.255.255.255",
-        "::ffff:240.0.0.0",
-        "::ffff:0.0.0.1",
-        "::ffff:1.0.0.0",
-        "::ffff:255.255.255.254",
-        "::ffff:254.255.255.255",
-        "::ffff:127.0.0.1",
-        "::fffe:e000:1",
-        "::fffe:0:0",
-        "::fefe:e000:1",
-        "::e000:1",
-        "1::ffff:e000:1",
-        "::1:ffff:e000:1",
-        "::1:ffff:0:0",
-    ] {
+    for text in LEGAL_EDGES {
         s.start();
         s.changed(set_of(&[2, 3]), |text_of_move| {
             text_of_move.set[0].address = address(text);
@@ -1126,4 +1252,433 @@ fn end_of_time(s: &mut Script) {
     }
     s.list(set_of(&[1, 2]));
     s.send(1);
+}
+
+/// Checks with 0 to 72 opaque bytes and many more, some of them repeated.
+fn opaque_lengths(s: &mut Script) {
+    s.start();
+    for length in (0..=72).chain([100, 128, 255, 256, 257, 264, 320, 321, 512, 1024, 1960]) {
+        s.check(opaque(length), |_| {});
+        if [0, 1, 4, 8, 63, 64, 65].contains(&length) {
+            let highest = s.association().peer_id.unwrap_or(0);
+            for id in [highest, highest.saturating_sub(1)] {
+                s.check(opaque(length), |text| text.update_id = id);
+                s.check(vec![0xaa; length], |text| text.update_id = id);
+            }
+        }
+    }
+}
+
+/// Checks with and without each parameter that they may hold; lengths L of
+/// those that are read.
+fn parameters_of_checks(s: &mut Script) {
+    s.start();
+    for held in 0..32 {
+        s.check(opaque(8), |text| {
+            if held & 1 == 0 {
+                text.info = None;
+            }
+            if held & 2 == 0 {
+                text.acks.clear();
+            }
+            for (bit, kind) in [(4, HOST_ID), (8, HIP_MAC), (16, HIP_SIGNATURE)] {
+                if held & bit != 0 {
+                    text.others.push((kind, vec![1; 20]));
+                }
+            }
+        });
+    }
+    for kind in [0, 66, 896, 898, 962, 65534] {
+        s.check(opaque(8), |text| text.others.push((kind, vec![0; 9])));
+    }
+    for held in 0..4 {
+        for step in [0, 1] {
+            let id = s.association().peer_id.unwrap_or(0) - step;
+            s.check(opaque(8), |text| {
+                text.update_id = id;
+                text.info = text.info.filter(|_| held & 1 != 0);
+                text.acks.truncate(held / 2);
+            });
+        }
+    }
+    for kind in [ESP_INFO, SEQ, ACK] {
+        for length in [0, 1, 3, 4, 5, 8, 11, 12, 13, 16, 24] {
+            let mut parameters = s.check_text(opaque(8)).parameters();
+            let wanted = parameters.iter_mut().find(|(other, _)| *other == kind);
+            wanted.expect("it is there").1.resize(length, 0);
+            s.parameters(&parameters);
+        }
+    }
+    // A last parameter whose length leads past the end, or stops short of it.
+    for length in [0, 4, 5, 12, 13, 100, 65_535_u16] {
+        let mut packet = s.check_text(opaque(8)).packet();
+        let place = packet.len() - 14;
+        packet[place..place + 2].copy_from_slice(&length.to_be_bytes());
+        s.packet(packet);
+    }
+    for length in [2040, 2048, 2056] {
+        let room = length - s.check_text(opaque(8)).packet().len();
+        s.check(opaque(8), |text| {
+            text.others.push((65_534, vec![1; room - 4]))
+        });
+    }
+}
+
+/// One bit of every byte of a Check changed.
+fn every_byte_of_a_check_changed(s: &mut Script) {
+    s.start();
+    let length = s.check_text(opaque(8)).packet().len();
+    for place in 0..length {
+        if s.association().peer_id > Some(1000) {
+            s.start();
+        }
+        let mut packet = s.check_text(opaque(8)).packet();
+        packet[place] ^= 1 << (place * 5 % 8);
+        s.packet(packet);
+    }
+}
+
+/// Messages of none of the three kinds for an 897: one too many, or with it
+/// what a Check may not hold, or missing.
+fn of_no_kind(s: &mut Script) {
+    for length in [8, 65] {
+        s.start_with(&[1, 2]);
+        let nonce = s.nonce_of(1).to_be_bytes();
+        let text = s.text(set_of(&[1, 2, 3]));
+        let [info, set, id] = <[Written; 3]>::try_from(text.parameters()).expect("three of them");
+        let (request, response) = (echo_request(&opaque(length)), echo_response(&nonce));
+        let (seen, host) = (ack(&[4]), (HOST_ID, vec![1; 20]));
+        let runs: [&[&Written]; 25] = [
+            // A Move, a Reply and a Check with one too many.
+            &[&info, &set, &id, &request],
+            &[&info, &set, &id, &seen, &request, &response],
+            &[&request, &response],
+            &[&seen, &host, &request, &response],
+            &[&id, &request, &request],
+            &[&info, &id, &seen, &request, &request],
+            // A Check that lacks something.
+            &[&request],
+            &[&host, &request],
+            &[&seen, &request],
+            &[&info, &request],
+            &[&info, &seen, &request],
+            &[&id],
+            &[&id, &seen],
+            &[&info, &id, &seen],
+            // A Check with something that it may not hold.
+            &[&id, &id, &request],
+            &[&info, &id, &id, &seen, &request],
+            &[&set, &id, &request],
+            &[&set, &id, &seen, &request],
+            &[&set, &request],
+            &[&id, &request, &response],
+            &[&info, &id, &seen, &request, &response],
+            &[&info, &info, &id, &request],
+            &[&info, &info, &id, &seen, &request],
+            &[&id, &seen, &seen, &request],
+            &[&info, &id, &seen, &seen, &request],
+        ];
+        for run in runs {
+            let parameters: Vec<Written> = run.iter().map(|one| (*one).clone()).collect();
+            s.parameters(&parameters);
+        }
+        s.echo(u64::from_be_bytes(nonce));
+    }
+}
+
+/// The IDs of Moves and Checks are one sequence.
+fn ids_of_checks(s: &mut Script) {
+    enum Sent {
+        Move(u32),
+        Check(u32),
+    }
+    use Sent::{Check, Move};
+    let (half, top) = (1 << 31, u32::MAX);
+    let runs = [
+        &[
+            Check(0),
+            Check(0),
+            Move(0),
+            Check(5),
+            Check(4),
+            Move(4),
+            Move(5),
+        ][..],
+        &[
+            Move(3),
+            Check(3),
+            Check(2),
+            Check(4),
+            Move(3),
+            Move(5),
+            Check(4),
+        ],
+        &[Check(1), Check(0), Check(top - 1), Check(top)],
+        &[Check(top), Check(top), Move(top), Check(0), Move(0)],
+        &[Move(top), Check(top), Check(half)],
+        &[Check(half), Check(half - 1), Check(half + 1)],
+    ];
+    for run in runs {
+        s.start();
+        for (place, sent) in run.iter().enumerate() {
+            let n = 2 + place as u8;
+            match sent {
+                Move(id) => s.changed(set_of(&[1, n]), |text| text.update_id = *id),
+                Check(id) => s.check(vec![n; 8], |text| text.update_id = *id),
+            }
+        }
+    }
+}
+
+/// What a Check holds or comes with and is not judged.
+fn unjudged_in_checks(s: &mut Script) {
+    s.start_with(&[1, 2]);
+    let outbound = s.association().outbound;
+    for info in [
+        (0, 0, 0),
+        (0, outbound, 0),
+        (0, 0, outbound),
+        (u16::MAX, outbound, outbound),
+        (1, outbound, 0x3001),
+        (u16::MAX, u32::MAX, u32::MAX),
+    ] {
+        s.check(opaque(8), |text| text.info = Some(info));
+    }
+    for ids in [&[7][..], &[1, 2], &[0; 8]] {
+        s.check(opaque(8), |text| text.acks = ids.to_vec());
+    }
+    let mut packet = s.check_text(opaque(9)).packet();
+    packet[3] = 0x2f;
+    packet[4..40].fill(0xff);
+    // ESP_INFO's reserved bytes, and the padding of 897.
+    packet[44..46].fill(0xff);
+    let padding = packet.len() - 3;
+    packet[padding..].fill(0xff);
+    s.packet(packet);
+    // A Check takes no nonces, so these may be any.
+    let nonce = s.nonce_of(1);
+    for nonces in [vec![0; 8], vec![nonce; 8]] {
+        let packet = s.check_text(opaque(8)).packet();
+        s.packet_with(packet, nonces);
+    }
+    // A nonce of ours that the peer sends as its own verifies nothing.
+    for _ in 0..2 {
+        s.check(nonce.to_be_bytes().to_vec(), |_| {});
+    }
+    s.echo(nonce);
+    // Nothing else of a Check is stored: payload goes where it went.
+    s.send(100);
+}
+
+/// Checks that are refused, also for several reasons at once.
+fn refused_checks(s: &mut Script) {
+    s.start_with(&[1, 2]);
+    for length in [8, 64, 65] {
+        for (authentic, buffer) in [
+            (true, 0),
+            (true, 16),
+            (true, 79),
+            (true, 80),
+            (true, 383),
+            (false, 384),
+            (false, 80),
+            (true, 384),
+            (true, 385),
+            (true, 65_535),
+        ] {
+            let packet = s.check_text(opaque(length)).packet();
+            let nonces = s.fresh_nonces();
+            s.call(Call::Message(MessageInputs {
+                authentic,
+                buffer,
+                packet,
+                nonces,
+            }));
+        }
+        let highest = s.association().peer_id.unwrap_or(0);
+        for id in [highest - 1, highest, highest + 1] {
+            // Nothing else wrong, an odd type, a wrong length, a falling type.
+            for (kind, body) in [(66, 4), (3, 4), (899, 0), (ACK, 6), (SEQ, 4)] {
+                let mut parameters = s.check_text(opaque(length)).parameters();
+                parameters[1] = seq(id);
+                parameters.push((kind, vec![0; body]));
+                if kind != SEQ {
+                    parameters.sort_by_key(|(kind, _)| *kind);
+                }
+                s.parameters(&parameters);
+            }
+        }
+    }
+}
+
+/// Lists of 0 to 10 entries of type 0, of type 1 and of both, into a buffer
+/// that is exact and one that is a byte short; then much longer lists.
+fn lengths_of_lists(s: &mut Script) {
+    s.start();
+    for types in [[0, 0], [1, 1], [0, 1]] {
+        for count in 0..=10 {
+            let numbers: Vec<u8> = (1..=count).collect();
+            let mut list = list_of(&numbers);
+            for (place, entry) in list.iter_mut().enumerate() {
+                entry.locator_type = types[place % 2];
+            }
+            s.announce(list.clone(), |inputs| inputs.buffer -= 1);
+            s.announce(list, |inputs| inputs.inbound += 1);
+        }
+    }
+    // The last is the longest list that a record can hold.
+    for count in [257, 264, 2046] {
+        let long = |n: u16| {
+            let mut entry = entry(0);
+            entry.address[14..].copy_from_slice(&n.to_be_bytes());
+            entry
+        };
+        let list: Vec<Entry> = (1..=count).map(long).collect();
+        s.announce(list, |inputs| inputs.buffer = 65_535);
+    }
+}
+
+/// What may stand in an announcement.
+fn announced_values(s: &mut Script) {
+    s.start();
+    for buffer in [0, 1, 55, 56, 57, 255, 256, 65_535] {
+        s.announce(list_of(&[1]), |inputs| inputs.buffer = buffer);
+    }
+    for buffer in [0, 56, 255, 256, 257, 65_535] {
+        let mut list = list_of(&[1, 2, 3, 4, 5, 6, 7, 8]);
+        list.iter_mut().for_each(|entry| entry.locator_type = 1);
+        s.announce(list, |inputs| inputs.buffer = buffer);
+    }
+    for inbound in [1, 2, 0x1001, 0x1001, 0x2001, 1 << 31, u32::MAX, 0x1001] {
+        for locator_type in [0, 1] {
+            let mut list = list_of(&[9]);
+            list[0].locator_type = locator_type;
+            s.announce(list, |inputs| inputs.inbound = inbound);
+        }
+    }
+    for keymat in [0, 1, 255, 256, u16::MAX] {
+        s.announce(list_of(&[9]), |inputs| inputs.keymat = keymat);
+    }
+    for lifetime in [1, 255, 256, 1 << 31, u32::MAX] {
+        s.announce(list_of(&[9, 8]), |inputs| {
+            inputs.list[1].lifetime = lifetime
+        });
+    }
+    for traffic in [0, 1, 2] {
+        for preferred in 0..3 {
+            let mut list = list_of(&[7, 8]);
+            list[1].locator_type = 1;
+            list[1].traffic = traffic;
+            if let Some(entry) = list.get_mut(preferred) {
+                entry.preferred = true;
+            }
+            s.announce(list, |_| {});
+        }
+    }
+    for text in LEGAL_EDGES {
+        let mut list = list_of(&[1, 2, 3]);
+        list[1].address = address(text);
+        list[2].address = address(text);
+        list[2].address[15] ^= 2;
+        list[2].locator_type = 1;
+        s.announce(list, |_| {});
+    }
+}
+
+/// Refusal 18, clause by clause.
+fn faulty_lists(s: &mut Script) {
+    s.start();
+    let mut faulty = Vec::new();
+    for locator_type in [0, 1] {
+        let good = Entry {
+            locator_type,
+            ..entry(8)
+        };
+        for traffic in [3, 4, 128, 255] {
+            faulty.push(Entry {
+                traffic,
+                ..good.clone()
+            });
+        }
+        faulty.push(Entry {
+            lifetime: 0,
+            ..good.clone()
+        });
+        for text in NOT_LEGAL {
+            faulty.push(Entry {
+                address: address(text),
+                ..good.clone()
+            });
+        }
+    }
+    for locator_type in [2, 3, 128, 255] {
+        faulty.push(Entry {
+            locator_type,
+            ..entry(8)
+        });
+    }
+    for entry in faulty {
+        s.announce(vec![entry.clone()], |_| {});
+        let mut list = list_of(&[1, 2, 3, 4, 5, 6, 7]);
+        list.push(entry);
+        s.announce(list, |_| {});
+    }
+    for (first, second) in [(0, 1), (0, 7), (6, 7)] {
+        let good = list_of(&[1, 2, 3, 4, 5, 6, 7, 8]);
+        for locator_type in [0, 1] {
+            let mut list = good.clone();
+            list[second].address = list[first].address;
+            list[second].locator_type = locator_type;
+            s.announce(list, |_| {});
+        }
+        let mut list = good;
+        list[first].preferred = true;
+        list[second].preferred = true;
+        s.announce(list, |_| {});
+    }
+}
+
+/// Announcements that are refused, also for several reasons at once.
+fn refused_announcements(s: &mut Script) {
+    s.start();
+    let nine = list_of(&[1, 2, 3, 4, 5, 6, 7, 8, 9]);
+    let mut faulty = list_of(&[1]);
+    faulty[0].lifetime = 0;
+    // A ninth entry that refusal 18 would find fault with.
+    let mut both = nine.clone();
+    both[8].traffic = 3;
+    for list in [list_of(&[1]), vec![], nine, both, faulty] {
+        for inbound in [0x1002, 0] {
+            for short in [0, 1, 56] {
+                s.announce(list.clone(), |inputs| {
+                    inputs.inbound = inbound;
+                    inputs.buffer = inputs.buffer.saturating_sub(short);
+                });
+            }
+        }
+    }
+}
+
+/// Announcements among other calls: checks show the new inbound SPI, own IDs
+/// are one sequence, all else stays.
+fn announcements_between(s: &mut Script) {
+    s.start_with(&[1, 2]);
+    s.arrive(1000);
+    let nonce = s.nonce_of(1);
+    s.announce(list_of(&[1, 2, 9]), |inputs| inputs.inbound = 0x5001);
+    s.list(set_of(&[1, 2, 3]));
+    s.echo(nonce);
+    s.announce(list_of(&[9]), |inputs| inputs.inbound = 0x5002);
+    s.announce(list_of(&[9]), |_| {});
+    s.announce(list_of(&[9]), |inputs| inputs.inbound = 0);
+    s.changed(set_of(&[1, 4, 5]), |text| text.new_spi = 0x3001);
+    s.check(opaque(8), |_| {});
+    s.announce(list_of(&[9]), |inputs| inputs.inbound = 0x1001);
+    s.tick(110);
+    s.list(set_of(&[6]));
+    s.send(100);
+    s.tick(200);
+    s.announce(list_of(&[9]), |_| {});
+    s.start();
+    s.list(set_of(&[2]));
 }

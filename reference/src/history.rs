@@ -1,10 +1,11 @@
-//! What became of past checks, so that the census can tell late echoes apart.
-//! The association itself keeps none of this.
+//! What became of past checks and what came before, so that the census can
+//! tell late echoes and repeated messages apart. The association itself keeps
+//! none of this.
 
 use std::collections::BTreeMap;
 
 use crate::association::Association;
-use crate::packet::echo_of;
+use crate::packet::{content_of, echo_of, Content};
 use crate::reasons::Notes;
 
 #[derive(Clone, Copy, Debug, PartialEq, Eq)]
@@ -18,10 +19,20 @@ enum Ending {
     Refilled,
 }
 
+/// The message whose Update ID is the highest seen.
+#[derive(Clone, Debug, PartialEq, Eq)]
+enum Latest {
+    Move,
+    Check { opaque: Vec<u8> },
+}
+
 #[derive(Clone, Debug, Default)]
 pub struct History {
     /// Nonces of ended checks, with the slot and the address they were for.
     ended: BTreeMap<u64, (usize, [u8; 16], Ending)>,
+    latest: Option<Latest>,
+    /// Whether the inbound SPI is one that we announced in place of another.
+    new_inbound: bool,
 }
 
 impl History {
@@ -45,6 +56,68 @@ impl History {
             self.ended.insert(nonce, (*slot, locator.address, ending));
         }
         self.mark_replaced(before, after);
+        match content_of(packet) {
+            Some(Content::Move(_)) => self.latest = Some(Latest::Move),
+            Some(Content::Check(check)) => {
+                let opaque = check.opaque;
+                self.latest = Some(Latest::Check { opaque });
+            }
+            Some(Content::Reply { .. }) | None => {}
+        }
+    }
+
+    /// Takes in an accepted announcement, with the inbound SPI before and after.
+    pub fn announced(&mut self, before: u32, after: u32, notes: &mut Notes) {
+        notes.add_if(self.new_inbound, "announcement: OLD SPI announced before");
+        self.new_inbound |= before != after;
+    }
+
+    /// Notes whether new checks show an inbound SPI that we announced.
+    pub fn note_checks(&self, checks: usize, notes: &mut Notes) {
+        let shown = checks > 0 && self.new_inbound;
+        notes.add_if(shown, "checks: with an announced inbound SPI");
+    }
+
+    /// Notes which message had a Repeated message's ID first.
+    pub fn note_repeated(&self, packet: &[u8], notes: &mut Notes) {
+        match (content_of(packet), &self.latest) {
+            (Some(Content::Move(_)), Some(Latest::Move)) => {
+                notes.add("repeated: Move with a Move's ID");
+            }
+            (Some(Content::Move(_)), Some(Latest::Check { .. })) => {
+                notes.add("repeated: Move with a Check's ID");
+            }
+            (Some(Content::Check(_)), Some(Latest::Move)) => {
+                notes.add("repeated: Check with a Move's ID");
+            }
+            (Some(Content::Check(check)), Some(Latest::Check { opaque })) => {
+                notes.add(if check.opaque == *opaque {
+                    "repeated: Check with the same opaque bytes"
+                } else {
+                    "repeated: Check with other opaque bytes"
+                });
+            }
+            _ => {}
+        }
+    }
+
+    /// Notes which messages refusal 7 compared.
+    pub fn note_below(&self, packet: &[u8], notes: &mut Notes) {
+        match (content_of(packet), &self.latest) {
+            (Some(Content::Move(_)), Some(Latest::Move)) => {
+                notes.add("refusal 7: Move below a Move");
+            }
+            (Some(Content::Move(_)), Some(Latest::Check { .. })) => {
+                notes.add("refusal 7: Move below a Check");
+            }
+            (Some(Content::Check(_)), Some(Latest::Move)) => {
+                notes.add("refusal 7: Check below a Move");
+            }
+            (Some(Content::Check(_)), Some(Latest::Check { .. })) => {
+                notes.add("refusal 7: Check below a Check");
+            }
+            _ => {}
+        }
     }
 
     /// A new check in a slot replaces those that were retired there.

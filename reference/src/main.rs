@@ -1,10 +1,12 @@
 //! A second, independent program that replays traces of calls on a HIP
-//! association. It is written from document 01 alone.
+//! association. It is written from documents 01 and 02 alone.
 
 mod address;
+mod announcement;
 mod assemble;
 mod association;
 mod census;
+mod check;
 mod compose;
 mod gate;
 mod history;

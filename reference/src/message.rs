@@ -1,12 +1,14 @@
-//! The message call: refusals 1 to 11 and the seven steps of a Move.
+//! The message call: its refusals and the seven steps of a Move.
 
 use std::collections::BTreeSet;
 
 use crate::address::legal_edge;
-use crate::association::{Association, Locator, Status, OWN_ID_LIMIT, SLOTS};
+use crate::association::{is_unusable, Association, Locator, Status, OWN_ID_LIMIT, SLOTS};
+use crate::check::{accept_check, check_answer, note_check, note_refused, note_repeated_check};
 use crate::packet::{
-    read_content, read_parameters, write_parameter, Content, Listed, Move, Parameter, ACK,
-    ECHO_REQUEST_SIGNED, ESP_INFO, HIP_MAC, HIP_SIGNATURE, HOST_ID, SEQ,
+    esp_info_body, read_content, read_parameters, write_parameter, Content, Listed, Move,
+    Parameter, ACK, ECHO_REQUEST_SIGNED, ESP_INFO, HIP_MAC, HIP_SIGNATURE, HOST_ID, LOCATOR_SET,
+    SEQ,
 };
 use crate::reasons::{Notes, Reasons};
 use crate::record::MessageInputs;
@@ -23,7 +25,7 @@ pub enum Answer {
         keymat: u16,
     },
     /// "A Move whose ID equals the highest seen is Repeated" (document 01's
-    /// term).
+    /// term), and so is a Check.
     Repeated {
         reply: Vec<u8>,
     },
@@ -36,24 +38,42 @@ pub fn message(association: &mut Association, inputs: &MessageInputs, notes: &mu
     let content = judge(association, inputs, &parameters, &mut reasons);
     // An ID equal to the highest seen is Repeated, and nothing after refusal 7
     // is tried.
-    let up_to_seven = reasons.lowest().is_some_and(|number| number <= 7);
-    if let (Some(Content::Move(content)), false) = (&content, up_to_seven) {
-        if association.peer_id == Some(content.update_id) {
-            note_repeated(association, content, &reasons, notes);
-            let reply = acknowledgement(content.update_id);
-            return Answer::Repeated { reply };
+    if !reasons.has_up_to(7) {
+        let again = |id| association.peer_id == Some(id);
+        match &content {
+            Some(Content::Move(content)) if again(content.update_id) => {
+                note_repeated(association, content, &reasons, notes);
+                let reply = acknowledgement(content.update_id);
+                return Answer::Repeated { reply };
+            }
+            Some(Content::Check(content)) if again(content.update_id) => {
+                note_repeated_check(&parameters, notes);
+                let reply = check_answer(content);
+                return Answer::Repeated { reply };
+            }
+            _ => {}
         }
     }
-    if let Some(number) = reasons.lowest() {
+    if let Some(number) = reasons.first() {
         note_refusal(inputs, &reasons, notes);
-        if let (10, Some(Content::Move(content))) = (number, &content) {
-            note_nonce_refusal(association, content, &inputs.nonces, notes);
+        match &content {
+            Some(Content::Move(content)) if number == 10 => {
+                note_nonce_refusal(association, content, &inputs.nonces, notes);
+            }
+            Some(Content::Check(content)) => {
+                note_refused(association, content, inputs, &parameters, number, notes);
+            }
+            _ => {}
         }
         return Answer::Refused(number);
     }
-    let answer = match content.expect("no reason to refuse, so Move or Reply") {
+    let answer = match content.expect("no reason to refuse, so of one of the kinds") {
         Content::Move(content) => accept_move(association, &content, &inputs.nonces, notes),
         Content::Reply { echo } => accept_reply(association, &echo, &inputs.nonces, notes),
+        Content::Check(content) => {
+            note_check(association, &content, inputs, &parameters, notes);
+            return accept_check(association, &content);
+        }
     };
     if !matches!(answer, Answer::Refused(_)) {
         note_packet(inputs, &parameters, notes);
@@ -76,11 +96,11 @@ fn judge(
         return None;
     }
     let content = read_content(parameters, reasons)?;
+    let below = |id| association.peer_id.is_some_and(|highest| id < highest);
     match &content {
         Content::Move(content) => {
-            let id = content.update_id;
-            let below = association.peer_id.is_some_and(|highest| id < highest);
-            reasons.add_if(below, 7, "refusal 7: Update ID below the highest");
+            let below = below(content.update_id);
+            reasons.add_if(below, 7, "refusal 7: a Move's ID");
             if let Some(echo) = &content.echo {
                 judge_echo(association, echo, "refusal 8: in a Move", reasons);
             }
@@ -90,12 +110,16 @@ fn judge(
         Content::Reply { echo } => {
             judge_echo(association, echo, "refusal 8: in a Reply", reasons);
         }
+        Content::Check(content) => {
+            let below = below(content.update_id);
+            reasons.add_if(below, 7, "refusal 7: a Check's ID");
+        }
     }
     Some(content)
 }
 
 /// The slot whose outstanding nonce is these eight bytes.
-fn slot_of_echo(association: &Association, echo: &[u8]) -> Option<usize> {
+pub fn slot_of_echo(association: &Association, echo: &[u8]) -> Option<usize> {
     let mut slots = association.held.iter();
     let answered = |locator: &Locator| {
         let nonce = locator.nonce();
@@ -113,7 +137,8 @@ fn judge_echo(association: &Association, echo: &[u8], clause: &'static str, reas
 fn judge_spis(association: &Association, content: &Move, reasons: &mut Reasons) {
     let other = content.old_spi != association.outbound;
     reasons.add_if(other, 9, "refusal 9: OLD SPI");
-    reasons.add_if(content.new_spi == 0, 9, "refusal 9: NEW SPI 0");
+    let unusable = is_unusable(content.new_spi);
+    reasons.add_if(unusable, 9, "refusal 9: NEW SPI 0");
     let spis = content.set.iter().filter_map(|listed| listed.spi);
     let stray = spis.into_iter().any(|spi| spi != content.new_spi);
     reasons.add_if(stray, 9, "refusal 9: SPI of a type 1 locator");
@@ -121,7 +146,7 @@ fn judge_spis(association: &Association, content: &Move, reasons: &mut Reasons) 
 
 /// "the 8 offered nonces not distinct from each other and from those
 /// outstanding before"
-fn judge_nonces(association: &Association, nonces: &[u64], reasons: &mut Reasons) {
+pub fn judge_nonces(association: &Association, nonces: &[u64], reasons: &mut Reasons) {
     let distinct: BTreeSet<u64> = nonces.iter().copied().collect();
     let twice = distinct.len() < nonces.len();
     reasons.add_if(twice, 10, "refusal 10: a nonce twice among the eight");
@@ -382,17 +407,14 @@ fn deal_checks(
 /// peer's ID, ECHO_REQUEST_SIGNED with 8 nonce bytes."
 fn check_bytes(inbound: u32, own_id: u64, peer_id: u32, nonce: u64) -> Vec<u8> {
     let own_id = u32::try_from(own_id).expect("refusal 11 keeps own IDs below 2^32");
-    let mut info = vec![0; 4];
-    info.extend(inbound.to_be_bytes());
-    info.extend(inbound.to_be_bytes());
-    let mut bytes = write_parameter(ESP_INFO, &info);
+    let mut bytes = write_parameter(ESP_INFO, &esp_info_body(0, inbound, inbound));
     bytes.extend(write_parameter(SEQ, &own_id.to_be_bytes()));
     bytes.extend(acknowledgement(peer_id));
     bytes.extend(write_parameter(ECHO_REQUEST_SIGNED, &nonce.to_be_bytes()));
     bytes
 }
 
-fn acknowledgement(peer_id: u32) -> Vec<u8> {
+pub fn acknowledgement(peer_id: u32) -> Vec<u8> {
     write_parameter(ACK, &peer_id.to_be_bytes())
 }
 
@@ -528,7 +550,7 @@ fn note_parameter(parameter: &Parameter, notes: &mut Notes) {
             let reserved = body[..2] != [0, 0];
             notes.add_if(reserved, "packet: reserved bits of ESP_INFO");
         }
-        crate::packet::LOCATOR_SET => {
+        LOCATOR_SET => {
             notes.add_if(body[3] & 0xfe != 0, "packet: reserved bits of a locator");
         }
         ACK if body.len() > 4 => notes.add("packet: ACK with several IDs"),
@@ -541,14 +563,20 @@ fn note_parameter(parameter: &Parameter, notes: &mut Notes) {
     }
 }
 
-/// Pairs of refusals whose conditions hold together; the lower number answers.
-const ORDER: [(u8, u8, &str); 12] = [
+/// Pairs of refusals whose conditions hold together; the first one answers.
+const ORDER: [(u8, u8, &str); 18] = [
     (1, 2, "order: refusal 1 before 2"),
     (1, 3, "order: refusal 1 before 3"),
     (2, 3, "order: refusal 2 before 3"),
     (3, 4, "order: refusal 3 before 4"),
     (4, 5, "order: refusal 4 before 5"),
     (4, 6, "order: refusal 4 before 6"),
+    (1, 22, "order: refusal 1 before 22"),
+    (2, 22, "order: refusal 2 before 22"),
+    (3, 22, "order: refusal 3 before 22"),
+    (4, 22, "order: refusal 4 before 22"),
+    (5, 22, "order: refusal 5 before 22"),
+    (22, 7, "order: refusal 22 before 7"),
     (5, 6, "order: refusal 5 before 6"),
     (6, 7, "order: refusal 6 before 7"),
     (6, 8, "order: refusal 6 before 8"),
@@ -559,11 +587,8 @@ const ORDER: [(u8, u8, &str); 12] = [
 
 fn note_refusal(inputs: &MessageInputs, reasons: &Reasons, notes: &mut Notes) {
     reasons.note_clause(notes);
-    let lowest = reasons.lowest();
-    for (first, second, name) in ORDER {
-        notes.add_if(lowest == Some(first) && reasons.has(second), name);
-    }
-    if lowest == Some(1) {
+    reasons.note_order(&ORDER, notes);
+    if reasons.first() == Some(1) {
         notes.add_if(inputs.buffer == 0, "refusal 1: buffer 0");
         notes.add_if(inputs.buffer == 383, "refusal 1: buffer 383");
     }
@@ -588,7 +613,7 @@ fn note_nonce_refusal(
 }
 
 fn note_repeated(association: &Association, content: &Move, reasons: &Reasons, notes: &mut Notes) {
-    notes.add("repeated");
+    notes.add("Move repeated");
     let echo = content.echo.as_deref();
     let good_echo = echo.is_some_and(|echo| slot_of_echo(association, echo).is_some());
     notes.add_if(good_echo, "repeated: an outstanding nonce's echo unused");

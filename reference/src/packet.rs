@@ -1,4 +1,4 @@
-//! Reading the bytes of a packet: refusals 3 to 6.
+//! Reading the bytes of a packet: refusals 3 to 6, and 22.
 
 use crate::address::{not_legal, NotLegal};
 use crate::reasons::Reasons;
@@ -15,13 +15,17 @@ pub const HIP_SIGNATURE: u16 = 61697;
 
 pub const HEADER_LENGTH: usize = 40;
 
-/// Odd types that are read or stepped over; 897 is only ever written.
-const KNOWN_ODD_TYPES: [u16; 8] = [
+/// The most opaque bytes of a Check that are echoed.
+pub const OPAQUE_LIMIT: usize = 64;
+
+/// Odd types that are read or stepped over.
+const KNOWN_ODD_TYPES: [u16; 9] = [
     ESP_INFO,
     LOCATOR_SET,
     SEQ,
     ACK,
     HOST_ID,
+    ECHO_REQUEST_SIGNED,
     ECHO_RESPONSE_SIGNED,
     HIP_MAC,
     HIP_SIGNATURE,
@@ -34,11 +38,13 @@ pub struct Parameter {
     pub padding: Vec<u8>,
 }
 
-/// An accepted message is a Move or a Reply (document 01's terms).
+/// An accepted message is a Move or a Reply (document 01's terms) or a Check
+/// (order 1's).
 #[derive(Clone, Debug)]
 pub enum Content {
     Move(Move),
     Reply { echo: Vec<u8> },
+    Check(Check),
 }
 
 /// A Move (document 01's term): ESP_INFO, LOCATOR_SET and SEQ, perhaps with an
@@ -51,6 +57,14 @@ pub struct Move {
     pub set: Vec<Listed>,
     pub update_id: u32,
     pub echo: Option<Vec<u8>>,
+}
+
+/// A Check (order 1's term): the peer verifies an address of ours by SEQ and
+/// one ECHO_REQUEST_SIGNED. Its ESP_INFO and ACK are not used.
+#[derive(Clone, Debug)]
+pub struct Check {
+    pub update_id: u32,
+    pub opaque: Vec<u8>,
 }
 
 /// One locator as a set lists it.
@@ -67,6 +81,15 @@ pub struct Listed {
 /// "One takes 11 + L - (L + 3) mod 8 bytes in all."
 pub fn bytes_in_all(length: usize) -> usize {
     11 + length - (length + 3) % 8
+}
+
+/// The body of an ESP_INFO, its reserved bits zero.
+pub fn esp_info_body(keymat: u16, old_spi: u32, new_spi: u32) -> Vec<u8> {
+    let mut body = vec![0, 0];
+    body.extend(keymat.to_be_bytes());
+    body.extend(old_spi.to_be_bytes());
+    body.extend(new_spi.to_be_bytes());
+    body
 }
 
 /// One parameter as it is written, its padding zero.
@@ -88,7 +111,7 @@ pub fn u32_at(bytes: &[u8], place: usize) -> u32 {
 }
 
 /// The parameters of a packet, as far as they can be read, with the reasons
-/// for refusals 3 and 4.
+/// for refusals 3, 4 and 22.
 pub fn read_parameters(packet: &[u8], reasons: &mut Reasons) -> Vec<Parameter> {
     if packet.len() < HEADER_LENGTH {
         reasons.add(3, "refusal 3: under 40 bytes");
@@ -98,6 +121,7 @@ pub fn read_parameters(packet: &[u8], reasons: &mut Reasons) -> Vec<Parameter> {
     let parameters = walk(packet, reasons);
     judge_lengths(&parameters, reasons);
     judge_types(&parameters, reasons);
+    judge_opaque(&parameters, reasons);
     parameters
 }
 
@@ -169,15 +193,19 @@ fn judge_lengths(parameters: &[Parameter], reasons: &mut Reasons) {
     }
 }
 
-/// "Another even type is stepped over; another odd type, or 897, is refused."
+/// "odd type not known"
 fn judge_types(parameters: &[Parameter], reasons: &mut Reasons) {
-    for parameter in parameters {
-        let kind = parameter.kind;
-        if kind == ECHO_REQUEST_SIGNED {
-            reasons.add(4, "refusal 4: type 897");
-        } else if kind % 2 == 1 && !KNOWN_ODD_TYPES.contains(&kind) {
-            reasons.add(4, "refusal 4: odd type not known");
-        }
+    let strange = |kind: u16| kind % 2 == 1 && !KNOWN_ODD_TYPES.contains(&kind);
+    let any = parameters.iter().any(|p| strange(p.kind));
+    reasons.add_if(any, 4, "refusal 4: odd type not known");
+}
+
+/// "Opaque over 64 gets one too". Only a Check may hold an 897: in any other
+/// message refusal 5 is tried first.
+fn judge_opaque(parameters: &[Parameter], reasons: &mut Reasons) {
+    for opaque in bodies(parameters, ECHO_REQUEST_SIGNED) {
+        let long = opaque.len() > OPAQUE_LIMIT;
+        reasons.add_if(long, 22, "refusal 22: over 64 opaque bytes");
     }
 }
 
@@ -187,91 +215,182 @@ fn bodies(parameters: &[Parameter], kind: u16) -> Vec<&[u8]> {
     of_kind.map(|p| p.body.as_slice()).collect()
 }
 
-/// What the message says, with the reasons for refusals 5 and 6. The
-/// parameters have passed refusal 3.
-pub fn read_content(parameters: &[Parameter], reasons: &mut Reasons) -> Option<Content> {
-    let infos = bodies(parameters, ESP_INFO);
-    let sets = bodies(parameters, LOCATOR_SET);
-    let seqs = bodies(parameters, SEQ);
-    let acks = bodies(parameters, ACK);
-    let echoes = bodies(parameters, ECHO_RESPONSE_SIGNED);
-    let mut listed = Vec::new();
-    for set in &sets {
-        listed = read_set(set, reasons);
-    }
-    let reply_shaped = infos.is_empty() && sets.is_empty() && seqs.is_empty();
-    if reply_shaped {
-        judge_reply(parameters, echoes.len(), acks.len(), reasons);
-    } else {
-        judge_move([infos.len(), sets.len(), seqs.len()], reasons);
-        reasons.add_if(echoes.len() > 1, 5, "refusal 5: Move with echo twice");
-        reasons.add_if(acks.len() > 1, 5, "refusal 5: Move with ACK twice");
-    }
-    if reasons.has(5) {
-        return None;
-    }
-    let echo = echoes.first().map(|echo| echo.to_vec());
-    if reply_shaped {
-        return echo.map(|echo| Content::Reply { echo });
-    }
-    Some(Content::Move(Move {
-        keymat: u16_at(infos[0], 2),
-        old_spi: u32_at(infos[0], 4),
-        new_spi: u32_at(infos[0], 8),
-        set: listed,
-        update_id: u32_at(seqs[0], 0),
-        echo,
-    }))
+/// How often a kind of message holds parameters of one type, with the clauses
+/// of refusal 5 for one that holds fewer or more.
+enum Share {
+    One(u16, &'static str, &'static str),
+    AtMostOne(u16, &'static str),
+    Never(u16, &'static str),
 }
+
+impl Share {
+    fn fault(&self, parameters: &[Parameter]) -> Option<&'static str> {
+        let (Share::One(kind, ..) | Share::AtMostOne(kind, _) | Share::Never(kind, _)) = self;
+        match (self, bodies(parameters, *kind).len()) {
+            (Share::One(_, without, _), 0) => Some(without),
+            (Share::One(_, _, twice) | Share::AtMostOne(_, twice), 2..) => Some(twice),
+            (Share::Never(_, with), 1..) => Some(with),
+            _ => None,
+        }
+    }
+}
+
+/// "A Move has exactly one each of ESP_INFO, LOCATOR_SET and SEQ, at most one
+/// echo response and one ACK"; "a Move or Reply holds no 897".
+const MOVE: [Share; 6] = [
+    Share::One(
+        ESP_INFO,
+        "refusal 5: Move without ESP_INFO",
+        "refusal 5: Move with ESP_INFO twice",
+    ),
+    Share::One(
+        LOCATOR_SET,
+        "refusal 5: Move without LOCATOR_SET",
+        "refusal 5: Move with LOCATOR_SET twice",
+    ),
+    Share::One(
+        SEQ,
+        "refusal 5: Move without SEQ",
+        "refusal 5: Move with SEQ twice",
+    ),
+    Share::AtMostOne(ACK, "refusal 5: Move with ACK twice"),
+    Share::Never(ECHO_REQUEST_SIGNED, "refusal 5: Move with an 897"),
+    Share::AtMostOne(ECHO_RESPONSE_SIGNED, "refusal 5: Move with echo twice"),
+];
 
 /// "A Reply has exactly one echo response, none of those three, at most one
 /// ACK."
-fn judge_reply(parameters: &[Parameter], echoes: usize, acks: usize, reasons: &mut Reasons) {
-    if echoes == 0 {
-        reasons.add(
-            5,
-            if parameters.is_empty() {
-                "refusal 5: no parameters"
-            } else if acks > 0 {
-                "refusal 5: ACK without an echo"
-            } else {
-                "refusal 5: only parameters that are stepped over"
-            },
-        );
-        return;
+fn reply_shares(parameters: &[Parameter]) -> [Share; 6] {
+    let without = if parameters.is_empty() {
+        "refusal 5: no parameters"
+    } else if !bodies(parameters, ACK).is_empty() {
+        "refusal 5: ACK without an echo"
+    } else {
+        "refusal 5: only parameters that are stepped over"
+    };
+    [
+        Share::Never(ESP_INFO, "refusal 5: Reply with ESP_INFO"),
+        Share::Never(LOCATOR_SET, "refusal 5: Reply with LOCATOR_SET"),
+        Share::Never(SEQ, "refusal 5: Reply with SEQ"),
+        Share::AtMostOne(ACK, "refusal 5: Reply with ACK twice"),
+        Share::Never(ECHO_REQUEST_SIGNED, "refusal 5: Reply with an 897"),
+        Share::One(
+            ECHO_RESPONSE_SIGNED,
+            without,
+            "refusal 5: Reply with echo twice",
+        ),
+    ]
+}
+
+/// "a Check (SEQ and one 897, at most one each of ESP_INFO and ACK, nothing
+/// else known but 705, MAC and signature)"
+const CHECK: [Share; 6] = [
+    Share::AtMostOne(ESP_INFO, "refusal 5: Check with ESP_INFO twice"),
+    Share::Never(LOCATOR_SET, "refusal 5: Check with LOCATOR_SET"),
+    Share::One(
+        SEQ,
+        "refusal 5: Check without SEQ",
+        "refusal 5: Check with SEQ twice",
+    ),
+    Share::AtMostOne(ACK, "refusal 5: Check with ACK twice"),
+    Share::One(
+        ECHO_REQUEST_SIGNED,
+        "refusal 5: Check without 897",
+        "refusal 5: Check with 897 twice",
+    ),
+    Share::Never(ECHO_RESPONSE_SIGNED, "refusal 5: Check with an echo"),
+];
+
+/// The clauses by which a message is not of this kind.
+fn faults(shares: &[Share], parameters: &[Parameter]) -> Vec<&'static str> {
+    let all = shares.iter().filter_map(|share| share.fault(parameters));
+    all.collect()
+}
+
+/// What the message says, with the reasons for refusals 5 and 6. The
+/// parameters have passed refusal 3.
+pub fn read_content(parameters: &[Parameter], reasons: &mut Reasons) -> Option<Content> {
+    let mut set = Vec::new();
+    for body in bodies(parameters, LOCATOR_SET) {
+        let (listed, set_faults) = read_set(body);
+        for fault in set_faults {
+            reasons.add(6, clause_of(fault));
+        }
+        set = listed;
     }
-    reasons.add_if(echoes > 1, 5, "refusal 5: Reply with echo twice");
-    reasons.add_if(acks > 1, 5, "refusal 5: Reply with ACK twice");
+    let of_move = faults(&MOVE, parameters);
+    let of_reply = faults(&reply_shares(parameters), parameters);
+    let of_check = faults(&CHECK, parameters);
+    // A message of no kind has the clauses of the kind that it is nearest to.
+    let all = [&of_move, &of_reply, &of_check];
+    let nearest = all.into_iter().min_by_key(|clauses| clauses.len());
+    for clause in nearest.into_iter().flatten() {
+        reasons.add(5, clause);
+    }
+    let body = |kind| bodies(parameters, kind).first().copied();
+    let echo = body(ECHO_RESPONSE_SIGNED).map(<[u8]>::to_vec);
+    if of_move.is_empty() {
+        let (info, seq) = (body(ESP_INFO)?, body(SEQ)?);
+        return Some(Content::Move(Move {
+            keymat: u16_at(info, 2),
+            old_spi: u32_at(info, 4),
+            new_spi: u32_at(info, 8),
+            set,
+            update_id: u32_at(seq, 0),
+            echo,
+        }));
+    }
+    if of_reply.is_empty() {
+        return echo.map(|echo| Content::Reply { echo });
+    }
+    if of_check.is_empty() {
+        return Some(Content::Check(Check {
+            update_id: u32_at(body(SEQ)?, 0),
+            opaque: body(ECHO_REQUEST_SIGNED)?.to_vec(),
+        }));
+    }
+    None
 }
 
-/// "A Move has exactly one each of ESP_INFO, LOCATOR_SET and SEQ".
-fn judge_move([infos, sets, seqs]: [usize; 3], reasons: &mut Reasons) {
-    reasons.add_if(infos == 0, 5, "refusal 5: ESP_INFO missing");
-    reasons.add_if(infos > 1, 5, "refusal 5: ESP_INFO twice");
-    reasons.add_if(sets == 0, 5, "refusal 5: LOCATOR_SET missing");
-    reasons.add_if(sets > 1, 5, "refusal 5: LOCATOR_SET twice");
-    reasons.add_if(seqs == 0, 5, "refusal 5: SEQ missing");
-    reasons.add_if(seqs > 1, 5, "refusal 5: SEQ twice");
+/// What refusal 6 finds wrong with a set.
+#[derive(Clone, Copy, Debug, PartialEq, Eq)]
+pub enum SetFault {
+    Empty,
+    OverEight,
+    NotFilled,
+    Traffic,
+    LocatorType,
+    LengthOfType0,
+    LengthOfType1,
+    Lifetime,
+    Address(NotLegal),
+    AddressTwice,
+    PTwice,
 }
 
-/// The locators of a set, with the reasons for refusal 6.
-fn read_set(body: &[u8], reasons: &mut Reasons) -> Vec<Listed> {
+/// The locators of a set, and every fault in it.
+pub fn read_set(body: &[u8]) -> (Vec<Listed>, Vec<SetFault>) {
     let mut listed = Vec::new();
+    let mut faults = Vec::new();
     let mut count = 0;
     let mut rest = body;
     while !rest.is_empty() {
         let Some((head, locator, after)) = split_locator(rest) else {
-            reasons.add(6, "refusal 6: not filled exactly");
+            faults.push(SetFault::NotFilled);
             break;
         };
-        listed.extend(read_locator(head, locator, reasons));
+        listed.extend(read_locator(head, locator, &mut faults));
         count += 1;
         rest = after;
     }
-    reasons.add_if(body.is_empty(), 6, "refusal 6: empty");
-    reasons.add_if(count > 8, 6, "refusal 6: over 8");
-    judge_repeats(&listed, reasons);
-    listed
+    if body.is_empty() {
+        faults.push(SetFault::Empty);
+    }
+    if count > 8 {
+        faults.push(SetFault::OverEight);
+    }
+    faults.extend(repeats(&listed));
+    (listed, faults)
 }
 
 /// The eight bytes that head a locator, the locator, and what follows;
@@ -289,30 +408,28 @@ fn split_locator(bytes: &[u8]) -> Option<(&[u8], &[u8], &[u8])> {
     Some((head, locator, after))
 }
 
-fn read_locator(head: &[u8], locator: &[u8], reasons: &mut Reasons) -> Option<Listed> {
+fn read_locator(head: &[u8], locator: &[u8], faults: &mut Vec<SetFault>) -> Option<Listed> {
     let lifetime = u32_at(head, 4);
-    reasons.add_if(head[0] > 2, 6, "refusal 6: unknown traffic type");
-    reasons.add_if(lifetime == 0, 6, "refusal 6: lifetime 0");
+    if head[0] > 2 {
+        faults.push(SetFault::Traffic);
+    }
+    if lifetime == 0 {
+        faults.push(SetFault::Lifetime);
+    }
     let (spi, address) = match (head[1], locator.len()) {
         (0, 16) => (None, locator),
         (1, 20) => (Some(u32_at(locator, 0)), &locator[4..]),
-        (0, _) => {
-            reasons.add(6, "refusal 6: length of type 0");
-            return None;
-        }
-        (1, _) => {
-            reasons.add(6, "refusal 6: length of type 1");
-            return None;
-        }
-        _ => {
-            reasons.add(6, "refusal 6: unknown locator type");
+        (kind, _) => {
+            faults.push(match kind {
+                0 => SetFault::LengthOfType0,
+                1 => SetFault::LengthOfType1,
+                _ => SetFault::LocatorType,
+            });
             return None;
         }
     };
     let address: [u8; 16] = address.try_into().expect("16 bytes are left");
-    if let Some(fault) = not_legal(&address) {
-        reasons.add(6, clause_of(fault));
-    }
+    faults.extend(not_legal(&address).map(SetFault::Address));
     Some(Listed {
         address,
         traffic: head[0],
@@ -322,25 +439,40 @@ fn read_locator(head: &[u8], locator: &[u8], reasons: &mut Reasons) -> Option<Li
     })
 }
 
-fn clause_of(fault: NotLegal) -> &'static str {
-    match fault {
-        NotLegal::FirstByteFf => "refusal 6: first byte 0xff",
-        NotLegal::AllZero => "refusal 6: all zero",
-        NotLegal::Ipv4Multicast => "refusal 6: IPv4 224 to 239",
-        NotLegal::Ipv4Zero => "refusal 6: 0.0.0.0",
-        NotLegal::Ipv4Broadcast => "refusal 6: 255.255.255.255",
-    }
-}
-
 /// "an address twice, P twice"
-fn judge_repeats(listed: &[Listed], reasons: &mut Reasons) {
+fn repeats(listed: &[Listed]) -> Vec<SetFault> {
+    let mut faults = Vec::new();
     let twice = listed
         .iter()
         .enumerate()
         .any(|(i, one)| listed[..i].iter().any(|other| other.address == one.address));
-    reasons.add_if(twice, 6, "refusal 6: address twice");
-    let preferred = listed.iter().filter(|one| one.preferred).count();
-    reasons.add_if(preferred > 1, 6, "refusal 6: P twice");
+    if twice {
+        faults.push(SetFault::AddressTwice);
+    }
+    if listed.iter().filter(|one| one.preferred).count() > 1 {
+        faults.push(SetFault::PTwice);
+    }
+    faults
+}
+
+fn clause_of(fault: SetFault) -> &'static str {
+    match fault {
+        SetFault::Empty => "refusal 6: empty",
+        SetFault::OverEight => "refusal 6: over 8",
+        SetFault::NotFilled => "refusal 6: not filled exactly",
+        SetFault::Traffic => "refusal 6: unknown traffic type",
+        SetFault::LocatorType => "refusal 6: unknown locator type",
+        SetFault::LengthOfType0 => "refusal 6: length of type 0",
+        SetFault::LengthOfType1 => "refusal 6: length of type 1",
+        SetFault::Lifetime => "refusal 6: lifetime 0",
+        SetFault::Address(NotLegal::FirstByteFf) => "refusal 6: first byte 0xff",
+        SetFault::Address(NotLegal::AllZero) => "refusal 6: all zero",
+        SetFault::Address(NotLegal::Ipv4Multicast) => "refusal 6: IPv4 224 to 239",
+        SetFault::Address(NotLegal::Ipv4Zero) => "refusal 6: 0.0.0.0",
+        SetFault::Address(NotLegal::Ipv4Broadcast) => "refusal 6: 255.255.255.255",
+        SetFault::AddressTwice => "refusal 6: address twice",
+        SetFault::PTwice => "refusal 6: P twice",
+    }
 }
 
 /// The body of a packet's only echo response, for the census.
@@ -348,4 +480,14 @@ pub fn echo_of(packet: &[u8]) -> Option<Vec<u8>> {
     let parameters = read_parameters(packet, &mut Reasons::default());
     let echoes = bodies(&parameters, ECHO_RESPONSE_SIGNED);
     echoes.first().map(|echo| echo.to_vec())
+}
+
+/// What a packet that passed refusals 3 to 5 says, for the census.
+pub fn content_of(packet: &[u8]) -> Option<Content> {
+    let mut reasons = Reasons::default();
+    let parameters = read_parameters(packet, &mut reasons);
+    if reasons.has_up_to(5) {
+        return None;
+    }
+    read_content(&parameters, &mut reasons)
 }

@@ -25,6 +25,11 @@ fn answer_text(answer: &Answer) -> String {
         Answer::Send(Ok(slot)) => format!("send granted slot {slot}"),
         Answer::Send(Err(number)) => format!("send refused {number}"),
         Answer::Tick(result) => accepted_or_not("tick", result),
+        Answer::Announcement(Ok(bytes)) => {
+            let length = bytes.len();
+            format!("announcement accepted bytes {length} {}", hex(bytes))
+        }
+        Answer::Announcement(Err(number)) => format!("announcement refused {number}"),
     }
 }
 

@@ -4,15 +4,17 @@
 use std::io::{self, Write};
 use std::net::Ipv6Addr;
 
+use crate::announcement::bytes_to_write;
 use crate::association::{Association, Locator, CREDIT_LIMIT, LARGEST_SIZE, TIME_LIMIT};
 use crate::compose::{
-    ack, echo_response, packet, record_of, sections, set_header_length, MoveText, Tracer, Written,
+    ack, echo_request, echo_response, esp_info, packet, record_of, sections, seq,
+    set_header_length, CheckText, MoveText, Tracer, Written,
 };
 use crate::packet::{
     bytes_in_all, Listed, ACK, ECHO_REQUEST_SIGNED, ECHO_RESPONSE_SIGNED, ESP_INFO, HEADER_LENGTH,
     HIP_MAC, HIP_SIGNATURE, HOST_ID, LOCATOR_SET, SEQ,
 };
-use crate::record::{Call, MessageInputs, Sections, StartInputs};
+use crate::record::{AnnouncementInputs, Call, Entry, MessageInputs, Sections, StartInputs};
 use crate::replay::Answer;
 
 /// Writes a random trace; the same seed gives the same bytes.
@@ -114,11 +116,13 @@ pub fn address(text: &str) -> [u8; 16] {
 struct Style {
     /// Addresses that its Moves list; few, so that they come back.
     pool: Vec<[u8; 16]>,
-    /// Percentage of messages that answer a check.
+    /// Percentage of messages that are Checks.
+    checks: u64,
+    /// Percentage of the others that answer a check.
     answers: u64,
     /// Percentage of Moves with another SPI.
     new_spis: u64,
-    /// Percentage of messages that something is wrong with.
+    /// Percentage of messages and announcements that something is wrong with.
     spoilt: u64,
     /// Percentage of arrivals that begin a run of large ones.
     bursts: u64,
@@ -127,11 +131,19 @@ struct Style {
     calls: u64,
 }
 
-/// A message before its bytes are written.
+/// A Move or Reply before its bytes are written.
 struct Draft {
     text: MoveText,
     /// A Reply: only the echo response and the ACK are written.
     reply: bool,
+    authentic: bool,
+    buffer: u64,
+    nonces: Vec<u64>,
+}
+
+/// A message whose bytes are to be written.
+struct Composed {
+    parameters: Vec<Written>,
     authentic: bool,
     buffer: u64,
     nonces: Vec<u64>,
@@ -216,16 +228,17 @@ impl Generator {
         let call = match self.random.below(100) {
             0..=2 => return self.malformed(),
             3 => self.refused_start(),
-            4..=51 => self.message(&association),
-            52..=65 => self.arrival(&association),
-            66..=83 => self.send(&association),
+            4..=50 => self.message(&association),
+            51..=56 => self.announcement(&association),
+            57..=69 => self.arrival(&association),
+            70..=85 => self.send(&association),
             _ => self.tick(&association),
         };
         record_of(&call)
     }
 
     fn without_association(&mut self) -> Sections {
-        let call = match self.random.below(8) {
+        let call = match self.random.below(9) {
             0 => return self.malformed(),
             1 => self.refused_start(),
             2 => Call::Arrival { size: 1 },
@@ -236,6 +249,12 @@ impl Generator {
                 buffer: 384,
                 packet: packet(&[]),
                 nonces: vec![0; 8],
+            }),
+            6 => Call::Announcement(AnnouncementInputs {
+                buffer: 256,
+                list: Vec::new(),
+                inbound: 1,
+                keymat: 0,
             }),
             _ => self.start(),
         };
@@ -345,19 +364,25 @@ impl Generator {
     }
 
     fn message(&mut self, association: &Association) -> Call {
-        if !self.past_packets.is_empty() && self.random.percent(2) {
+        if !self.past_packets.is_empty() && self.random.percent(4) {
             return self.old_packet();
         }
-        let mut draft = self.draft(association);
         let mut spoils = 0;
         if self.random.percent(self.style.spoilt) {
             spoils = 1 + usize::from(self.random.percent(25));
         }
         let kinds: Vec<u64> = (0..spoils).map(|_| self.random.below(10)).collect();
-        for _ in kinds.iter().filter(|kind| **kind < 6) {
-            self.spoil_draft(&mut draft, association);
-        }
-        let mut parameters = draft.parameters();
+        let wrong = kinds.iter().filter(|kind| **kind < 6).count();
+        let Composed {
+            mut parameters,
+            authentic,
+            buffer,
+            nonces,
+        } = if self.random.percent(self.style.checks) {
+            self.check(association, wrong)
+        } else {
+            self.move_or_reply(association, wrong)
+        };
         self.colour_parameters(&mut parameters);
         if kinds.contains(&6) || kinds.contains(&7) {
             self.spoil_parameters(&mut parameters);
@@ -372,16 +397,179 @@ impl Generator {
             self.past_packets.remove(0);
         }
         Call::Message(MessageInputs {
-            authentic: draft.authentic,
-            buffer: draft.buffer,
+            authentic,
+            buffer,
             packet,
-            nonces: draft.nonces,
+            nonces,
         })
     }
 
-    /// A packet that came before, with other nonces.
+    /// A Move or a Reply, with this many things wrong.
+    fn move_or_reply(&mut self, association: &Association, wrong: usize) -> Composed {
+        let mut draft = self.draft(association);
+        for _ in 0..wrong {
+            self.spoil_draft(&mut draft, association);
+        }
+        Composed {
+            parameters: draft.parameters(),
+            authentic: draft.authentic,
+            buffer: draft.buffer,
+            nonces: draft.nonces,
+        }
+    }
+
+    /// The next Update ID of the peer.
+    fn next_id(&mut self, association: &Association) -> u32 {
+        let step = 1 + self.random.below(3) as u32;
+        let next_id = association.peer_id.map(|id| id.saturating_add(step));
+        if association.peer_id == Some(u32::MAX) {
+            // Only repeats are left, so a new association comes soon.
+            self.style.calls = self.style.calls.min(20);
+        }
+        next_id.unwrap_or(self.style.first_id)
+    }
+
+    /// A Check, with this many things wrong. Its ESP_INFO and its nonces are not
+    /// judged, so they may be anything.
+    fn check(&mut self, association: &Association, wrong: usize) -> Composed {
+        let update_id = self.next_id(association);
+        let others = self.others();
+        let r = &mut self.random;
+        let outbound = association.outbound;
+        let spis = [outbound, outbound, 0, r.number() as u32];
+        let any = r.index(65);
+        let length = r.pick(&[0, 1, 4, 7, 8, 8, 8, 9, 63, 64, 64, any, any, any]);
+        let mut opaque: Vec<u8> = (0..length).map(|_| r.byte()).collect();
+        let outstanding = association.outstanding();
+        if !outstanding.is_empty() && r.percent(10) {
+            opaque = r.pick(&outstanding).to_be_bytes().to_vec();
+        }
+        let keymat = r.pick(&[0, 0, 1, u16::MAX]);
+        let (old_spi, new_spi) = (r.pick(&spis), r.pick(&spis));
+        let acks = r.pick(&[0, 1, 1, 2, 5]);
+        let mut text = CheckText {
+            info: r.percent(60).then_some((keymat, old_spi, new_spi)),
+            update_id,
+            acks: (0..acks).map(|_| r.number() as u32).collect(),
+            opaque,
+            others,
+        };
+        let mut nonces: Vec<u64> = (0..8).map(|_| r.number()).collect();
+        if r.percent(10) {
+            nonces.fill(r.number());
+        }
+        let mut authentic = true;
+        let mut buffer = r.pick(&[384, 384, 385, 1000, 65_535]);
+        let last_id = association.peer_id.unwrap_or(0);
+        for _ in 0..wrong {
+            match r.below(10) {
+                0..=3 => text.update_id = last_id,
+                4..=5 => text.update_id = last_id.saturating_sub(1 + r.below(3) as u32),
+                6 => text.opaque.resize(65, 1),
+                7 => {
+                    let length = r.pick(&[66, 72, 128, 256, 257, 300, 320, 321, 1500]);
+                    text.opaque.resize(length, 2);
+                }
+                8 => authentic = false,
+                _ => buffer = r.pick(&[0, 16, 79, 80, 383, 383]),
+            }
+        }
+        Composed {
+            parameters: text.parameters(),
+            authentic,
+            buffer,
+            nonces,
+        }
+    }
+
+    fn announcement(&mut self, association: &Association) -> Call {
+        let r = &mut self.random;
+        let mut addresses: Vec<[u8; 16]> = LEGAL.iter().map(|text| address(text)).collect();
+        r.shuffle(&mut addresses);
+        addresses.truncate(r.pick(&[1, 1, 2, 3, 5, 7, 8, 8]));
+        let preferred = r.percent(60).then(|| r.index(addresses.len()));
+        let types = r.pick(&[[0, 0], [1, 1], [0, 1]]);
+        let mut list = Vec::new();
+        for (place, address) in addresses.into_iter().enumerate() {
+            list.push(Entry {
+                locator_type: r.pick(&types),
+                traffic: r.pick(&[0, 0, 0, 1, 2]),
+                lifetime: lifetime(r),
+                preferred: preferred == Some(place),
+                address,
+            });
+        }
+        let same = association.inbound;
+        let other = r.number() as u32 | 1;
+        let mut inputs = AnnouncementInputs {
+            buffer: 0,
+            list,
+            inbound: r.pick(&[same, same, 1, 0x1001, u32::MAX, other]),
+            keymat: r.pick(&[0, 1, 0x1234, u16::MAX]),
+        };
+        let mut short = false;
+        if r.percent(self.style.spoilt) {
+            for _ in 0..1 + r.below(2) {
+                short |= self.spoil_announcement(&mut inputs);
+            }
+        }
+        let r = &mut self.random;
+        let exact = bytes_to_write(&inputs.list) as u64;
+        inputs.buffer = if short {
+            let any = r.below(exact);
+            r.pick(&[0, 1, 55, exact - 1, exact - 1, exact - 8, any])
+        } else {
+            r.pick(&[exact, exact, exact + 1, 256.max(exact), 65_535])
+        };
+        Call::Announcement(inputs)
+    }
+
+    /// One thing wrong with an announcement; true if it is to be the buffer.
+    fn spoil_announcement(&mut self, inputs: &mut AnnouncementInputs) -> bool {
+        let r = &mut self.random;
+        let Some(first) = inputs.list.first().cloned() else {
+            return r.percent(50);
+        };
+        let place = r.index(inputs.list.len());
+        let entry = &mut inputs.list[place];
+        match r.below(13) {
+            0 => inputs.list.clear(),
+            1 => {
+                for n in inputs.list.len()..r.pick(&[9, 9, 10, 16, 40]) {
+                    inputs.list.push(Entry {
+                        preferred: false,
+                        address: [0x30 + n as u8; 16],
+                        ..first.clone()
+                    });
+                }
+            }
+            2 => entry.traffic = r.pick(&[3, 4, 255]),
+            3 => entry.locator_type = r.pick(&[2, 3, 128, 255]),
+            4 => entry.lifetime = 0,
+            5..=6 => entry.address = address(r.pick(&NOT_LEGAL)),
+            7 => {
+                let twice = entry.clone();
+                inputs.list.insert(0, twice);
+            }
+            8 => {
+                for entry in &mut inputs.list {
+                    entry.preferred = true;
+                }
+            }
+            9..=10 => inputs.inbound = 0,
+            _ => return true,
+        }
+        false
+    }
+
+    /// A packet that came before, often the last one, with other nonces.
     fn old_packet(&mut self) -> Call {
-        let packet = self.random.pick(&self.past_packets);
+        let count = self.past_packets.len();
+        let mut place = count - 1;
+        if self.random.percent(50) {
+            place = self.random.index(count);
+        }
+        let packet = self.past_packets[place].clone();
         Call::Message(MessageInputs {
             authentic: true,
             buffer: 384,
@@ -390,8 +578,9 @@ impl Generator {
         })
     }
 
-    /// A message with nothing wrong.
+    /// A Move or Reply with nothing wrong.
     fn draft(&mut self, association: &Association) -> Draft {
+        let update_id = self.next_id(association);
         let outstanding = association.outstanding();
         let r = &mut self.random;
         let mut echo = None;
@@ -407,19 +596,13 @@ impl Generator {
         if r.percent(self.style.new_spis) {
             new_spi = r.pick(&[1, 2, 3, 0x2001, u32::MAX]);
         }
-        let step = 1 + r.below(3) as u32;
-        let next_id = association.peer_id.map(|id| id.saturating_add(step));
-        if association.peer_id == Some(u32::MAX) {
-            // Only repeats are left, so a new association comes soon.
-            self.style.calls = self.style.calls.min(20);
-        }
         let acks = r.pick(&[0, 0, 1, 1, 2, 5]);
         let acks = (0..acks).map(|_| r.number() as u32).collect();
         let text = MoveText {
             keymat: r.pick(&[0, 1, 0x1234, u16::MAX]),
             old_spi: outbound,
             new_spi,
-            update_id: next_id.unwrap_or(self.style.first_id),
+            update_id,
             acks,
             echo,
             set: Vec::new(),
@@ -606,7 +789,15 @@ impl Generator {
                 parameters.sort_by_key(|(kind, _)| *kind);
             }
             4 => {
-                parameters.push((ECHO_REQUEST_SIGNED, vec![1; 8]));
+                // One too many for most messages.
+                parameters.push(match r.below(10) {
+                    0 => esp_info(0, 1, 1),
+                    1 => seq(r.number() as u32),
+                    2 => ack(&[1]),
+                    3 => echo_response(&[2; 8]),
+                    4 => (LOCATOR_SET, Vec::new()),
+                    _ => echo_request(&vec![1; r.pick(&[0, 8, 64, 65])]),
+                });
                 parameters.sort_by_key(|(kind, _)| *kind);
             }
             5 => {
@@ -618,8 +809,14 @@ impl Generator {
                 parameters[place].1.extend(vec![r.byte(); extra]);
             }
             7 => {
-                let kinds = [ESP_INFO, LOCATOR_SET, SEQ, ACK, ECHO_RESPONSE_SIGNED];
-                let kind = r.pick(&kinds);
+                let kind = r.pick(&[
+                    ESP_INFO,
+                    LOCATOR_SET,
+                    SEQ,
+                    ACK,
+                    ECHO_REQUEST_SIGNED,
+                    ECHO_RESPONSE_SIGNED,
+                ]);
                 parameters.retain(|(other, _)| *other != kind);
             }
             _ => parameters.clear(),
@@ -708,12 +905,15 @@ impl Generator {
 
     /// A record whose sections do not fit its call.
     fn malformed(&mut self) -> Sections {
+        if self.random.percent(25) {
+            return self.malformed_announcement();
+        }
         let r = &mut self.random;
         let good = [1; 16];
         let wide = 1 << 32;
         match r.below(16) {
             0 => sections(&[], &[], &[]),
-            1 => sections(&[5 + r.below(3)], &[], &[]),
+            1 => sections(&[6 + r.below(3)], &[], &[]),
             2 => sections(&[0, 1, 1, 1], &good, &[]),
             3 => sections(&[0, 1, wide, 1, 1], &good, &[]),
             4 => sections(&[0, 1, 1, wide, 1], &good, &[]),
@@ -729,7 +929,7 @@ impl Generator {
             13 => sections(&[1 + r.below(4)], &[], &[]),
             14 => sections(&[u64::MAX, 1], &[], &[]),
             _ => {
-                let mut record = sections(&[2 + r.below(3), 1], &[], &[]);
+                let mut record = sections(&[2 + r.below(4), 1], &[], &[]);
                 record.numbers.truncate(1 + r.index(15));
                 if record.numbers.len() == 8 {
                     record.numbers.push(0);
@@ -737,6 +937,38 @@ impl Generator {
                 record
             }
         }
+    }
+
+    /// An announcement of 0 to 11 entries with a number, a section or the count
+    /// of numbers wrong.
+    fn malformed_announcement(&mut self) -> Sections {
+        let r = &mut self.random;
+        let entries = r.pick(&[0, 1, 2, 5, 8, 9, 10, 11]);
+        let mut numbers = vec![5, 256];
+        for _ in 0..entries {
+            numbers.extend([r.below(2), r.below(3), 60, 0]);
+        }
+        numbers.extend([0x1001, 7]);
+        let mut bytes: Vec<u8> = (0..16 * entries).map(|_| r.byte()).collect();
+        let mut nonces = Vec::new();
+        let last = numbers.len() - 1;
+        match r.below(11) {
+            0 => numbers[1] = r.pick(&[65_536, u64::MAX]),
+            1 => numbers[last - 1] = r.pick(&[1 << 32, u64::MAX]),
+            2 => numbers[last] = r.pick(&[65_536, u64::MAX]),
+            3..=6 if entries > 0 => {
+                let any = r.index(entries);
+                let place = 2 + 4 * r.pick(&[0, entries - 1, any]);
+                let field = r.index(4);
+                let limits = [255, 255, u64::from(u32::MAX), 1];
+                numbers[place + field] = r.pick(&[limits[field] + 1, 1 << 32, u64::MAX]);
+            }
+            7 => numbers.truncate(1 + r.index(last)),
+            8 if entries > 0 => bytes.truncate(r.pick(&[0, 16 * entries - 1, 16 * entries - 16])),
+            9 => nonces.push(r.number()),
+            _ => bytes.extend(vec![1; r.pick(&[1, 15, 16])]),
+        }
+        sections(&numbers, &bytes, &nonces)
     }
 }
 
@@ -764,6 +996,7 @@ impl Style {
         pool.truncate(r.pick(&[4, 9, 12, 12, 26]));
         Style {
             pool,
+            checks: r.pick(&[5, 15, 15, 40]),
             answers: r.pick(&[5, 30, 40, 60]),
             new_spis: r.pick(&[0, 10, 10, 30]),
             spoilt: r.pick(&[10, 45, 55, 60]),

@@ -17,7 +17,7 @@ pub enum Next {
     Torn,
 }
 
-/// One of the five calls, with all its inputs.
+/// One of the six calls, with all its inputs.
 #[derive(Clone, Debug)]
 pub enum Call {
     Start(StartInputs),
@@ -25,6 +25,7 @@ pub enum Call {
     Arrival { size: u64 },
     Send { size: u64 },
     Tick { time: u64 },
+    Announcement(AnnouncementInputs),
 }
 
 #[derive(Clone, Debug)]
@@ -44,6 +45,26 @@ pub struct MessageInputs {
     pub packet: Vec<u8>,
     /// The eight offered nonces.
     pub nonces: Vec<u64>,
+}
+
+#[derive(Clone, Debug)]
+pub struct AnnouncementInputs {
+    /// Length of the lent buffer.
+    pub buffer: u64,
+    pub list: Vec<Entry>,
+    /// The new inbound SPI.
+    pub inbound: u32,
+    pub keymat: u16,
+}
+
+/// One entry of our list.
+#[derive(Clone, Debug, PartialEq, Eq)]
+pub struct Entry {
+    pub locator_type: u8,
+    pub traffic: u8,
+    pub lifetime: u32,
+    pub preferred: bool,
+    pub address: [u8; 16],
 }
 
 /// Reads one record; a file that ends inside it, or fails, is torn.
@@ -109,11 +130,15 @@ pub fn understand(record: &Sections) -> Result<Call, Vec<&'static str>> {
         (2, [size]) => plain(record, Call::Arrival { size: *size }, ARRIVAL_BYTES),
         (3, [size]) => plain(record, Call::Send { size: *size }, SEND_BYTES),
         (4, [time]) => plain(record, Call::Tick { time: *time }, TICK_BYTES),
+        (5, [buffer, list @ .., inbound, keymat]) if list.len() % 4 == 0 => {
+            announcement(record, list, [*buffer, *inbound, *keymat])
+        }
         (0, _) => Err(vec!["malformed: count of a start's numbers"]),
         (1, _) => Err(vec!["malformed: count of a message's numbers"]),
         (2, _) => Err(vec!["malformed: count of an arrival's numbers"]),
         (3, _) => Err(vec!["malformed: count of a send's numbers"]),
         (4, _) => Err(vec!["malformed: count of a tick's numbers"]),
+        (5, _) => Err(vec!["malformed: count of an announcement's numbers"]),
         _ => Err(vec!["malformed: unknown call"]),
     }
 }
@@ -185,6 +210,82 @@ fn message(record: &Sections, authentic: u64, buffer: u64) -> Result<Call, Vec<&
         nonces: big_endian_numbers(&record.nonces),
     };
     unless_faulty(Call::Message(inputs), faults)
+}
+
+/// What may be wrong with the numbers of an entry, in their order: of one of
+/// the first eight entries, and of a later one.
+const ENTRY_FAULTS: [[&str; 4]; 2] = [
+    [
+        "malformed: locator type over 255",
+        "malformed: traffic type over 255",
+        "malformed: entry's lifetime over 32 bits",
+        "malformed: P over 1",
+    ],
+    [
+        "malformed: locator type over 255 past the eighth",
+        "malformed: traffic type over 255 past the eighth",
+        "malformed: entry's lifetime over 32 bits past the eighth",
+        "malformed: P over 1 past the eighth",
+    ],
+];
+
+/// `5 buffer (kind traffic lifetime P)* inbound keymat`, 16 address bytes for
+/// each entry in section two.
+fn announcement(
+    record: &Sections,
+    list: &[u64],
+    [buffer, inbound, keymat]: [u64; 3],
+) -> Result<Call, Vec<&'static str>> {
+    let mut faults = Vec::new();
+    if buffer > 65_535 {
+        faults.push("malformed: announcement's buffer over 65,535");
+    }
+    if u32::try_from(inbound).is_err() {
+        faults.push("malformed: new inbound SPI over 32 bits");
+    }
+    if keymat > 65_535 {
+        faults.push("malformed: KEYMAT Index over 65,535");
+    }
+    let limits = [255, 255, u64::from(u32::MAX), 1];
+    for (place, entry) in list.chunks_exact(4).enumerate() {
+        for ((number, limit), fault) in entry
+            .iter()
+            .zip(limits)
+            .zip(ENTRY_FAULTS[usize::from(place >= 8)])
+        {
+            if *number > limit {
+                faults.push(fault);
+            }
+        }
+    }
+    let wanted = list.len() / 4 * 16;
+    if record.bytes.len() < wanted {
+        faults.push("malformed: too few bytes of addresses");
+    }
+    if record.bytes.len() > wanted {
+        faults.push("malformed: too many bytes of addresses");
+    }
+    if !record.nonces.is_empty() {
+        faults.push("malformed: section three of an announcement");
+    }
+    let addresses = record.bytes.chunks_exact(16);
+    let entries = list.chunks_exact(4).zip(addresses);
+    // The casts lose nothing where there is no fault.
+    let inputs = AnnouncementInputs {
+        buffer,
+        list: entries
+            .map(|(numbers, address)| Entry {
+                locator_type: numbers[0] as u8,
+                traffic: numbers[1] as u8,
+                lifetime: numbers[2] as u32,
+                preferred: numbers[3] == 1,
+                address: address.try_into().expect("16 bytes"),
+            })
+            .collect(),
+        inbound: inbound as u32,
+        keymat: keymat as u16,
+    };
+    unless_faulty(Call::Announcement(inputs), faults)
 }
 
 const ARRIVAL_BYTES: [&str; 2] = [

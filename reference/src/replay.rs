@@ -3,6 +3,7 @@
 use std::fs::File;
 use std::io::{self, BufReader, Read, Write};
 
+use crate::announcement::announce;
 use crate::association::{start, Association};
 use crate::history::History;
 use crate::message::{self, message};
@@ -20,6 +21,8 @@ pub enum Answer {
     Arrival(Result<(), u8>),
     Send(Result<usize, u8>),
     Tick(Result<(), u8>),
+    /// The bytes written.
+    Announcement(Result<Vec<u8>, u8>),
 }
 
 /// The association that a trace has reached, if any.
@@ -75,6 +78,16 @@ impl Player {
                 note_result(&result, "tick accepted", "tick refused", notes);
                 Answer::Tick(result)
             }
+            Call::Announcement(inputs) => {
+                let before = association.inbound;
+                let result = announce(association, inputs, notes);
+                if result.is_ok() {
+                    self.history.announced(before, association.inbound, notes);
+                }
+                let names = ["announcement accepted", "announcement refused"];
+                note_result(&result, names[0], names[1], notes);
+                Answer::Announcement(result)
+            }
         }
     }
 
@@ -108,12 +121,18 @@ impl Player {
         let before = association.clone();
         let answer = message(association, inputs, notes);
         match answer {
-            message::Answer::Accepted { .. } => {
+            message::Answer::Accepted { checks, .. } => {
                 self.history.observe(&before, association, &inputs.packet);
+                self.history.note_checks(checks, notes);
             }
-            message::Answer::Repeated { .. } => {}
+            message::Answer::Repeated { .. } => {
+                self.history.note_repeated(&inputs.packet, notes);
+            }
             message::Answer::Refused(number) => {
                 notes.add("message refused");
+                if number == 7 {
+                    self.history.note_below(&inputs.packet, notes);
+                }
                 if number == 8 {
                     self.history.note_echo(association, &inputs.packet, notes);
                 }
@@ -129,14 +148,15 @@ fn no_association(call: &Call, notes: &mut Notes) -> Answer {
         Call::Arrival { .. } => ("arrival", "no association: arrival"),
         Call::Send { .. } => ("send", "no association: send"),
         Call::Tick { .. } => ("tick", "no association: tick"),
+        Call::Announcement(_) => ("announcement", "no association: announcement"),
         Call::Start(_) => unreachable!("a start needs no association"),
     };
     notes.add(case);
     Answer::NoAssociation(name)
 }
 
-fn note_result(
-    result: &Result<(), u8>,
+fn note_result<T>(
+    result: &Result<T, u8>,
     accepted: &'static str,
     refused: &'static str,
     notes: &mut Notes,

@@ -1,15 +1,24 @@
-//! Document 01's worked cases, the mistakes it warns of, and the form of the
-//! output.
+//! Document 01's worked cases, the mistakes it warns of, order 1's bytes and
+//! round trips, and the form of the output.
 
-use crate::association::Status;
+use crate::announcement::{announce, bytes_to_write};
+use crate::association::{Association, Status};
 use crate::census::{census_of, CASES};
-use crate::compose::{ack, echo_response, packet, MoveText, Tracer};
+use crate::compose::{
+    ack, behind_header, echo_request, echo_response, locator_set, packet, sections, seq, CheckText,
+    MoveText, Tracer,
+};
 use crate::message::Answer as MessageAnswer;
-use crate::packet::{bytes_in_all, Listed};
+use crate::packet::{
+    bytes_in_all, content_of, read_parameters, write_parameter, Content, Listed, Move, Parameter,
+    ACK, ESP_INFO, HIP_MAC, HIP_SIGNATURE, HOST_ID, LOCATOR_SET, SEQ,
+};
 use crate::print::hex;
 use crate::random;
-use crate::reasons::Notes;
-use crate::record::{Call, MessageInputs, StartInputs};
+use crate::reasons::{Notes, Reasons};
+use crate::record::{
+    understand, AnnouncementInputs, Call, Entry, MessageInputs, Sections, StartInputs,
+};
 use crate::replay::{for_each_record, replay_from, Answer, Player};
 
 const OUTBOUND: u32 = 0x2001;
@@ -225,7 +234,7 @@ fn eight_locators_pass_and_nine_do_not() {
 }
 
 #[test]
-fn a_packet_without_parameters_is_neither_move_nor_reply() {
+fn a_packet_without_parameters_is_of_no_kind() {
     let mut tracer = begun();
     let answer = send_message(&mut tracer, packet(&[]), nonces(1));
     assert_eq!(answer, MessageAnswer::Refused(5));
@@ -361,6 +370,450 @@ fn a_verified_address_can_be_retired_by_the_same_move() {
     assert_eq!(association.preferred, Some(1));
 }
 
+/// An entry of type 0.
+fn entry(n: u8) -> Entry {
+    Entry {
+        locator_type: 0,
+        traffic: 0,
+        lifetime: 60,
+        preferred: false,
+        address: address(n),
+    }
+}
+
+/// An announcement into a buffer that is just long enough.
+fn announcement_of(list: Vec<Entry>, inbound: u32) -> AnnouncementInputs {
+    AnnouncementInputs {
+        buffer: bytes_to_write(&list) as u64,
+        list,
+        inbound,
+        keymat: 0,
+    }
+}
+
+fn announce_to(tracer: &mut Tracer, inputs: &AnnouncementInputs) -> Result<Vec<u8>, u8> {
+    match tracer.call(&Call::Announcement(inputs.clone())) {
+        Answer::Announcement(result) => result,
+        other => panic!("not an announcement's answer: {other:?}"),
+    }
+}
+
+fn check_of(update_id: u32, opaque: &[u8]) -> CheckText {
+    CheckText {
+        info: None,
+        update_id,
+        acks: Vec::new(),
+        opaque: opaque.to_vec(),
+        others: Vec::new(),
+    }
+}
+
+#[test]
+fn the_bytes_of_an_announced_address() {
+    let mut tracer = begun();
+    let mut inputs = announcement_of(vec![entry(9)], 0x5005);
+    inputs.list[0].preferred = true;
+    inputs.keymat = 7;
+    let bytes = announce_to(&mut tracer, &inputs).unwrap();
+    let expected = [
+        // ESP_INFO: KEYMAT Index 7, OLD SPI, NEW SPI
+        "0041000c00000007",
+        "0000100100005005",
+        // LOCATOR_SET of 24 bytes: traffic 0, type 0, 4 words, P; 60 seconds
+        "00c10018",
+        "000004010000003c",
+        "20010db8000000000000000000000009",
+        "00000000",
+        // SEQ: own ID 0
+        "0181000400000000",
+    ];
+    assert_eq!(hex(&bytes), expected.concat());
+    assert_eq!(bytes.len(), 56);
+    let association = tracer.player.association.as_ref().unwrap();
+    assert_eq!((association.inbound, association.own_id), (0x5005, 1));
+}
+
+#[test]
+fn the_bytes_of_two_announced_addresses() {
+    let mut tracer = begun();
+    announce_to(&mut tracer, &announcement_of(vec![entry(9)], 0x5005)).unwrap();
+    let mut list = vec![entry(8), entry(9)];
+    list[0].locator_type = 1;
+    list[0].traffic = 1;
+    list[1].traffic = 2;
+    list[1].lifetime = u32::MAX;
+    list[1].preferred = true;
+    let bytes = announce_to(&mut tracer, &announcement_of(list, 0x6006)).unwrap();
+    let expected = [
+        "0041000c00000000",
+        "0000500500006006",
+        // 28 + 24 bytes: no padding
+        "00c10034",
+        "010105000000003c00006006",
+        "20010db8000000000000000000000008",
+        "02000401ffffffff",
+        "20010db8000000000000000000000009",
+        "0181000400000001",
+    ];
+    assert_eq!(hex(&bytes), expected.concat());
+    assert_eq!(bytes.len(), 80);
+}
+
+#[test]
+fn an_announcement_takes_56_to_256_bytes() {
+    let list = |count: u8, locator_type| -> Vec<Entry> {
+        let entries = (1..=count).map(entry);
+        let typed = entries.map(|entry| Entry {
+            locator_type,
+            ..entry
+        });
+        typed.collect()
+    };
+    let mut tracer = begun();
+    for (count, locator_type, length) in [
+        (1, 0, 56),
+        (1, 1, 56),
+        (2, 0, 80),
+        (2, 1, 88),
+        (8, 0, 224),
+        (8, 1, 256),
+    ] {
+        let mut inputs = announcement_of(list(count, locator_type), 0x1001);
+        assert_eq!(inputs.buffer, length);
+        inputs.buffer -= 1;
+        assert_eq!(announce_to(&mut tracer, &inputs), Err(21));
+        inputs.buffer += 1;
+        let bytes = announce_to(&mut tracer, &inputs).unwrap();
+        assert_eq!(bytes.len() as u64, length);
+    }
+    for count in [0, 9] {
+        let inputs = announcement_of(list(count, 0), 0x1001);
+        assert_eq!(announce_to(&mut tracer, &inputs), Err(17));
+    }
+}
+
+#[test]
+fn refusal_18_is_refusal_6_of_the_set() {
+    let mut faulty = vec![entry(9); 6];
+    faulty[0].locator_type = 2;
+    faulty[1].traffic = 3;
+    faulty[2].lifetime = 0;
+    faulty[3].address = [0; 16];
+    faulty[4].address = [0xff; 16];
+    faulty[5].address = address(1);
+    let mut tracer = begun();
+    for last in faulty {
+        let list = vec![entry(1), entry(2), last];
+        let answer = announce_to(&mut tracer, &announcement_of(list, 0x1001));
+        assert_eq!(answer, Err(18));
+    }
+    let mut list = vec![entry(1), entry(2), entry(3)];
+    list[0].preferred = true;
+    let inputs = announcement_of(list.clone(), 0x1001);
+    assert!(announce_to(&mut tracer, &inputs).is_ok());
+    list[2].preferred = true;
+    let inputs = announcement_of(list, 0x1001);
+    assert_eq!(announce_to(&mut tracer, &inputs), Err(18));
+}
+
+#[test]
+fn refusals_of_an_announcement_in_their_order() {
+    let mut association = begun().player.association.unwrap();
+    let mut nine: Vec<Entry> = (1..=9).map(entry).collect();
+    nine[8].lifetime = 0;
+    // The last own ID is used, then none is left.
+    association.own_id = (1 << 32) - 1;
+    let good = announcement_of(vec![entry(1)], 1);
+    let bytes = announce(&mut association, &good, &mut Notes::default()).unwrap();
+    assert_eq!(hex(&bytes[48..]), "01810004ffffffff");
+    assert_eq!(association.own_id, 1 << 32);
+    // Everything is wrong; one thing after another is put right.
+    let mut inputs = AnnouncementInputs {
+        buffer: 0,
+        list: nine,
+        inbound: 0,
+        keymat: 0,
+    };
+    let before = association.clone();
+    let mut refused = |inputs: &AnnouncementInputs, number| {
+        let answer = announce(&mut association, inputs, &mut Notes::default());
+        assert_eq!(answer, Err(number));
+        assert_eq!(association, before);
+    };
+    refused(&inputs, 17);
+    inputs.list.drain(..1);
+    refused(&inputs, 18);
+    inputs.list[7].lifetime = 1;
+    refused(&inputs, 19);
+    inputs.inbound = 1;
+    refused(&inputs, 20);
+    let mut fresh = begun().player.association.unwrap();
+    let answer = announce(&mut fresh, &inputs, &mut Notes::default());
+    assert_eq!(answer, Err(21));
+    inputs.buffer = 224;
+    assert!(announce(&mut fresh, &inputs, &mut Notes::default()).is_ok());
+}
+
+#[test]
+fn the_answer_to_a_check() {
+    let mut tracer = begun();
+    let counted: Vec<u8> = (1..=64).collect();
+    for (length, padding) in [(0, 4), (1, 3), (4, 0), (8, 4), (63, 5), (64, 4)] {
+        let id = 100 + length as u32;
+        let mut association = tracer.player.association.clone().unwrap();
+        let check = check_of(id, &counted[..length]);
+        let reply = match send_message(&mut tracer, check.packet(), nonces(1)) {
+            MessageAnswer::Accepted {
+                reply,
+                checks: 0,
+                keymat: 0,
+            } => reply,
+            other => panic!("not accepted: {other:?}"),
+        };
+        let expected = [
+            format!("01c10004000000{id:02x}"),
+            format!("03c100{length:02x}"),
+            hex(&counted[..length]),
+            "00".repeat(padding),
+        ];
+        assert_eq!(hex(&reply), expected.concat());
+        // Its ID is stored, all else stays.
+        association.peer_id = Some(id);
+        assert_eq!(tracer.player.association, Some(association));
+        // The same again, and with other opaque bytes.
+        let answer = send_message(&mut tracer, check.packet(), nonces(1));
+        assert_eq!(answer, MessageAnswer::Repeated { reply });
+        let other = send_message(&mut tracer, check_of(id, &[9]).packet(), nonces(1));
+        let reply = [
+            &[1, 0xc1, 0, 4, 0, 0, 0, id as u8][..],
+            &[3, 0xc1, 0, 1, 9, 0, 0, 0],
+        ];
+        let reply = reply.concat();
+        assert_eq!(other, MessageAnswer::Repeated { reply });
+    }
+}
+
+#[test]
+fn refusals_of_a_check_in_their_order() {
+    let mut tracer = begun();
+    accept(&mut tracer, &move_of(7, vec![listed(1)]), nonces(1));
+    let mut send = |authentic, buffer, packet: Vec<u8>| {
+        let call = Call::Message(MessageInputs {
+            authentic,
+            buffer,
+            packet,
+            nonces: vec![0; 8],
+        });
+        match tracer.call(&call) {
+            Answer::Message(MessageAnswer::Refused(number)) => number,
+            Answer::Message(MessageAnswer::Repeated { .. }) => 100,
+            Answer::Message(MessageAnswer::Accepted { .. }) => 200,
+            other => panic!("not a message's answer: {other:?}"),
+        }
+    };
+    let long = [1; 65];
+    let with = |id, opaque: &[u8], kind| {
+        let mut text = check_of(id, opaque);
+        text.others.push((kind, vec![0; 6]));
+        text.packet()
+    };
+    assert_eq!(send(false, 383, with(6, &long, ACK)), 1);
+    assert_eq!(send(false, 384, with(6, &long, ACK)), 2);
+    assert_eq!(send(true, 384, with(6, &long, ACK)), 3);
+    assert_eq!(send(true, 384, with(6, &long, 3)), 4);
+    let twice = packet(&[seq(6), seq(6), echo_request(&long)]);
+    assert_eq!(send(true, 384, twice), 5);
+    let listing = packet(&[locator_set(&[listed(1)]), seq(6), echo_request(&long)]);
+    assert_eq!(send(true, 384, listing), 5);
+    for id in [6, 7, 8] {
+        assert_eq!(send(true, 384, check_of(id, &long).packet()), 22);
+    }
+    assert_eq!(send(true, 384, check_of(6, &[1; 64]).packet()), 7);
+    assert_eq!(send(true, 384, check_of(7, &[1; 64]).packet()), 100);
+    assert_eq!(send(true, 384, check_of(8, &[1; 64]).packet()), 200);
+}
+
+#[test]
+fn an_897_too_many_makes_none_of_the_three_kinds() {
+    let mut tracer = unverified();
+    let request = echo_request(&[1; 8]);
+    let mut listing = move_of(1, vec![listed(2)]);
+    listing.others.push(request.clone());
+    let echo = echo_response(&100_u64.to_be_bytes());
+    for packet in [
+        listing.packet(),
+        packet(&[request.clone(), echo]),
+        packet(&[seq(1), request.clone(), request.clone()]),
+        packet(&[request]),
+        packet(&[seq(1)]),
+    ] {
+        let answer = send_message(&mut tracer, packet, nonces(2));
+        assert_eq!(answer, MessageAnswer::Refused(5));
+    }
+}
+
+/// Goes through a random trace, with the association before each call.
+fn for_each_random_call(
+    seed: u64,
+    calls: u64,
+    mut each: impl FnMut(&Association, &Call, &Answer, &Association),
+) {
+    let mut trace = Vec::new();
+    random::write_trace(seed, calls, &mut trace).unwrap();
+    let mut player = Player::default();
+    let whole = for_each_record(&mut &trace[..], |record: Sections| {
+        let before = player.association.clone();
+        let answer = player.run(&record, &mut Notes::default());
+        if let (Some(before), Ok(call)) = (&before, understand(&record)) {
+            each(before, &call, &answer, player.association.as_ref().unwrap());
+        }
+        Ok(())
+    });
+    assert!(whole.unwrap());
+}
+
+#[test]
+fn reading_what_we_wrote_gives_back_the_list() {
+    let mut count = 0;
+    for_each_random_call(5, 3000, |before, call, answer, after| {
+        let (Call::Announcement(inputs), Answer::Announcement(Ok(bytes))) = (call, answer) else {
+            return;
+        };
+        let mut changed = before.clone();
+        changed.inbound = inputs.inbound;
+        changed.own_id += 1;
+        assert_eq!(*after, changed);
+        let tail = [(HOST_ID, 30), (HIP_MAC, 32), (HIP_SIGNATURE, 66)];
+        let tail = tail.map(|(kind, length)| write_parameter(kind, &vec![0; length]));
+        for tail in [Vec::new(), tail.concat()] {
+            let packet = behind_header(&[&bytes[..], &tail].concat());
+            let Some(Content::Move(content)) = content_of(&packet) else {
+                panic!("not a Move");
+            };
+            assert_eq!(content.old_spi, before.inbound);
+            assert_eq!(content.new_spi, inputs.inbound);
+            assert_eq!(content.keymat, inputs.keymat);
+            assert_eq!(u64::from(content.update_id), before.own_id);
+            assert_eq!(content.echo, None);
+            assert_eq!(list_read(&content), inputs.list);
+        }
+        count += 1;
+    });
+    assert!(count > 50);
+}
+
+/// The list that a Move announces; each type 1 SPI is NEW SPI.
+fn list_read(content: &Move) -> Vec<Entry> {
+    let entries = content.set.iter().map(|listed| {
+        assert!(listed.spi.is_none_or(|spi| spi == content.new_spi));
+        Entry {
+            locator_type: u8::from(listed.spi.is_some()),
+            traffic: listed.traffic,
+            lifetime: listed.lifetime,
+            preferred: listed.preferred,
+            address: listed.address,
+        }
+    });
+    entries.collect()
+}
+
+#[test]
+fn writing_what_was_read_gives_the_same_bytes() {
+    let mut count = 0;
+    for_each_random_call(6, 3000, |_, call, answer, _| {
+        let (Call::Message(inputs), Answer::Message(MessageAnswer::Accepted { .. })) =
+            (call, answer)
+        else {
+            return;
+        };
+        let Some(Content::Move(content)) = content_of(&inputs.packet) else {
+            return;
+        };
+        let parameters = read_parameters(&inputs.packet, &mut Reasons::default());
+        let three = [ESP_INFO, LOCATOR_SET, SEQ]
+            .map(|kind| parameters.iter().find(|p| p.kind == kind).unwrap());
+        if three.iter().any(|parameter| has_reserved_bits(parameter)) {
+            return;
+        }
+        let mut association = begun().player.association.unwrap();
+        association.inbound = content.old_spi;
+        association.own_id = content.update_id.into();
+        let mut announcement = announcement_of(list_read(&content), content.new_spi);
+        announcement.keymat = content.keymat;
+        let bytes = announce(&mut association, &announcement, &mut Notes::default());
+        let read = three.map(|parameter| write_parameter(parameter.kind, &parameter.body));
+        assert_eq!(bytes, Ok(read.concat()));
+        count += 1;
+    });
+    assert!(count > 100);
+}
+
+/// Whether ESP_INFO's reserved bytes, a locator's reserved bits or the padding
+/// are not zero.
+fn has_reserved_bits(parameter: &Parameter) -> bool {
+    let body = &parameter.body;
+    let reserved = match parameter.kind {
+        ESP_INFO => body[..2] != [0, 0],
+        LOCATOR_SET => {
+            let mut rest = &body[..];
+            let mut found = false;
+            while !rest.is_empty() {
+                found |= rest[3] & 0xfe != 0;
+                rest = &rest[8 + 4 * usize::from(rest[2])..];
+            }
+            found
+        }
+        _ => false,
+    };
+    reserved || parameter.padding.iter().any(|byte| *byte != 0)
+}
+
+/// RFC 8046, Figure 3, between two associations of this program.
+#[test]
+fn two_associations_change_addresses_with_each_other() {
+    let begin = |outbound, inbound, n| {
+        let mut tracer = Tracer::default();
+        let inputs = StartInputs {
+            time: 100,
+            outbound,
+            inbound,
+            lifetime: 60,
+            address: address(n),
+        };
+        tracer.call(&Call::Start(inputs));
+        tracer
+    };
+    let mut hosts = [begin(0x2002, 0x1001, 2), begin(0x1001, 0x2002, 1)];
+    for (round, inbound) in [0x3003, 0x3003, 0x4004, 0x5005].into_iter().enumerate() {
+        let [mobile, peer] = &mut hosts;
+        let mut list = vec![entry(10 + round as u8)];
+        list[0].locator_type = 1;
+        list[0].preferred = true;
+        let bytes = announce_to(mobile, &announcement_of(list, inbound)).unwrap();
+        let check = match send_message(peer, behind_header(&bytes), nonces(round as u64)) {
+            MessageAnswer::Accepted {
+                reply, checks: 1, ..
+            } => reply,
+            other => panic!("not accepted: {other:?}"),
+        };
+        assert!(matches!(status(peer, 0), Status::Unverified { .. }));
+        let reply = match send_message(mobile, behind_header(&check), nonces(9)) {
+            MessageAnswer::Accepted {
+                reply, checks: 0, ..
+            } => reply,
+            other => panic!("not accepted: {other:?}"),
+        };
+        let answer = send_message(peer, behind_header(&reply), nonces(9));
+        assert!(matches!(answer, MessageAnswer::Accepted { .. }));
+        assert_eq!(status(peer, 0), Status::Active);
+        assert_eq!(address_in(peer, 0), address(10 + round as u8));
+        let outbound = peer.player.association.as_ref().unwrap().outbound;
+        assert_eq!(outbound, inbound);
+        // Next time the other one moves.
+        hosts.reverse();
+    }
+}
+
 const SAMPLE: &str = "\
 0 arrival no association
 1 start accepted
@@ -426,6 +879,54 @@ fn the_output_has_its_exact_form() {
     assert_eq!(printed(&[]), "");
 }
 
+const ANNOUNCED: &str = "\
+0 announcement no association
+1 start accepted
+  out 8193 in 4097 time 100 aged 100 credit 0 peer - own 0 preferred 0
+  slot 0 20010db8000000000000000000000001 traffic 0 expiry 160 active
+2 announcement refused 17
+  out 8193 in 4097 time 100 aged 100 credit 0 peer - own 0 preferred 0
+  slot 0 20010db8000000000000000000000001 traffic 0 expiry 160 active
+3 announcement accepted bytes 56 \
+0041000c00000000000010010000500500c10018000004000000003c\
+20010db8000000000000000000000009000000000181000400000000
+  out 8193 in 20485 time 100 aged 100 credit 0 peer - own 1 preferred 0
+  slot 0 20010db8000000000000000000000001 traffic 0 expiry 160 active
+4 message accepted reply 24 checks 0 keymat 0 01c100040000000703c10008010203040506070800000000
+  out 8193 in 20485 time 100 aged 100 credit 0 peer 7 own 1 preferred 0
+  slot 0 20010db8000000000000000000000001 traffic 0 expiry 160 active
+5 message repeated reply 24 checks 0 keymat 0 01c100040000000703c10008010203040506070800000000
+  out 8193 in 20485 time 100 aged 100 credit 0 peer 7 own 1 preferred 0
+  slot 0 20010db8000000000000000000000001 traffic 0 expiry 160 active
+6 message refused 22
+  out 8193 in 20485 time 100 aged 100 credit 0 peer 7 own 1 preferred 0
+  slot 0 20010db8000000000000000000000001 traffic 0 expiry 160 active
+7 malformed
+  out 8193 in 20485 time 100 aged 100 credit 0 peer 7 own 1 preferred 0
+  slot 0 20010db8000000000000000000000001 traffic 0 expiry 160 active
+";
+
+#[test]
+fn the_output_of_announcements_and_checks_has_its_exact_form() {
+    let mut tracer = Tracer::default();
+    let empty = Call::Announcement(announcement_of(Vec::new(), 1));
+    let check = check_of(7, &NONCES[0].to_be_bytes()).packet();
+    for call in [
+        empty.clone(),
+        start_call(100, 1),
+        empty,
+        Call::Announcement(announcement_of(vec![entry(9)], 0x5005)),
+        message_call(check.clone(), NONCES.to_vec()),
+        message_call(check, NONCES.to_vec()),
+        message_call(check_of(7, &[0; 65]).packet(), NONCES.to_vec()),
+    ] {
+        tracer.call(&call);
+    }
+    let numbers = [5, 256, 0, 0, 60, 2, 1, 0];
+    tracer.record(&sections(&numbers, &address(9), &[]));
+    assert_eq!(printed(&tracer.bytes), ANNOUNCED);
+}
+
 #[test]
 fn a_trace_cut_inside_a_record_is_torn() {
     let trace = sample_trace();
@@ -465,6 +966,7 @@ fn no_call_leads_to_refusal_0_and_a_refused_call_changes_nothing() {
                 | Answer::Arrival(Err(_))
                 | Answer::Send(Err(_))
                 | Answer::Tick(Err(_))
+                | Answer::Announcement(Err(_))
         );
         assert!(!refused || player.association == before);
         let unsound = player.association.as_ref().is_some_and(|a| a.is_unsound());

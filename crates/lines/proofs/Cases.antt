@@ -1,4 +1,4 @@
--- What a message answered, by how it ended; a number's bytes in a buffer of their size; the slots one by one. Assumes nothing.
+-- What a message and an announcement answered, by how they ended; a number's bytes in a buffer of their size; the slots one by one. Assumes nothing.
 use Prim.Native.Nat.{ℕ, suc, _+_, _-_, _≤_, _<_}
 use mathlib.Core.Path.{_≡_, sym, ap, _∙_}
 use mathlib.Core.List.{List, [], _∷_, _++_, append-assoc, append-nil}
@@ -14,16 +14,21 @@ use Rattle.writer.specs.Writes.{writtenAt}
 use Rattle.writer.proofs.Writes.{written-first}
 use Rattle.sections.specs.Records.{bytesIn}
 use Rattle.slot.specs.declared.Slot.{Slot}
+use Rattle.association.specs.declared.Outcome.{Outcome}
+use Rattle.announcement.specs.declared.Announcement.{Announcement}
 use Rattle.update.specs.declared.MessageOutcome.{MessageOutcome}
 use Rattle.update.specs.declared.MessageAnswer.{MessageAnswer}
 use Rattle.lines.specs.State.{slotText, slotsText}
-use Rattle.text.specs.Texts.{hexOf}
 use Rattle.lines.specs.Words.{word}
-use Rattle.lines.specs.Answers.{countsText, replyText, endingText, messageText}
+use Rattle.lines.specs.Answers.{countsText, bytesText, replyText, endingText, messageText, announcedText, announcementText}
 
 pub by-outcome : (answer : MessageAnswer) (buffer : List ℕ) (o : MessageOutcome) → answer .outcome ≡ o → endingText o answer buffer ≡ messageText answer buffer
 unfolding messageText
 by-outcome answer buffer o e = ap (λ (i : MessageOutcome). endingText i answer buffer) (sym e)
+
+pub by-announced : (answer : Announcement) (buffer : List ℕ) (o : Outcome) → answer .outcome ≡ o → announcedText o answer buffer ≡ announcementText answer buffer
+unfolding announcementText
+by-announced answer buffer o e = ap (λ (i : Outcome). announcedText i answer buffer) (sym e)
 
 -- eight bytes that a number is written over are the number's
 pub eight-bytes : (n : ℕ) (buffer : List ℕ) → length buffer ≡ 8 → writtenAt 0 (bytesOf 8 n) buffer ≡ bytesOf 8 n
@@ -54,7 +59,7 @@ unfolding replyText
 reply-none answer buffer e = let t : eqb (answer .written) 0 ≡ true = rw e in rw t
 
 pub reply-some : (answer : MessageAnswer) (buffer : List ℕ) → (answer .written ≡ 0 → ⊥)
-    → countsText answer ++ (word " " ++ ((hexOf (take (answer .written) buffer) ∷ []) ++ word "\n")) ≡ replyText answer buffer
+    → countsText answer ++ bytesText (answer .written) buffer ≡ replyText answer buffer
 unfolding replyText
 reply-some answer buffer e = rw (ne-eqb (answer .written) 0 e)
 

@@ -6,9 +6,9 @@ use lib.ListN.{length, length-append}
 use native.Mathlib.Omega.{arith}
 use Rattle.octets.specs.Written.{joined}
 use Rattle.writer.specs.Writes.{writtenAt}
-use Rattle.writer.proofs.Writes.{written-length, written-then}
+use Rattle.writer.proofs.Writes.{written-length, written-then, written-none}
 use Rattle.text.specs.Texts.{endOf}
-use Rattle.text.proofs.Puts.{end-within, written-none}
+use Rattle.text.proofs.Puts.{end-within}
 use Rattle.lines.specs.Laid.{laidOut, laidEnd, Laid}
 
 -- one text, as `text` promises it

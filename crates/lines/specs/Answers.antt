@@ -8,13 +8,14 @@ use Rattle.refusal.specs.declared.Refusal.{Refusal}
 use Rattle.refusal.specs.Table.{numberOf}
 use Rattle.association.specs.declared.Outcome.{Outcome}
 use Rattle.association.specs.declared.Outcome.the-variants.{Accepted, Refused}
+use Rattle.announcement.specs.declared.Announcement.{Announcement}
 use Rattle.payload.specs.declared.SendOutcome.{SendOutcome}
 use Rattle.payload.specs.declared.SendOutcome.the-variants.{Granted, Denied}
 use Rattle.update.specs.declared.MessageOutcome.{MessageOutcome}
-use Rattle.update.specs.declared.MessageOutcome.the-variants.{Moved, Replied, Repeated, Declined}
+use Rattle.update.specs.declared.MessageOutcome.the-variants.{Moved, Replied, Repeated, Responded, Declined}
 use Rattle.update.specs.declared.MessageAnswer.{MessageAnswer}
 use Rattle.trace.specs.declared.Call.{Call}
-use Rattle.trace.specs.declared.Call.the-variants.{Start, Message, Arrival, Send, Tick, Malformed}
+use Rattle.trace.specs.declared.Call.the-variants.{Start, Message, Arrival, Send, Tick, Announce, Malformed}
 use Rattle.text.specs.Texts.{hexOf}
 use Rattle.lines.specs.Words.{word, field}
 
@@ -25,6 +26,7 @@ nameText (Message message) = word " message"
 nameText (Arrival size) = word " arrival"
 nameText (Send size) = word " send"
 nameText (Tick time) = word " tick"
+nameText (Announce announcement) = word " announcement"
 nameText Malformed = word " malformed"
 
 -- the beginning of a record's line
@@ -49,18 +51,31 @@ sendText (Denied why) = refusalText why
 unfoldable pub countsText : MessageAnswer → List (List ℕ)
 countsText answer = field " reply " (answer .written) ++ (field " checks " (answer .checks) ++ field " keymat " (answer .keymat))
 
+-- the end of a line that tells the bytes written: those that the buffer begins with
+unfoldable pub bytesText : (written : ℕ) → (buffer : List ℕ) → List (List ℕ)
+bytesText written buffer = word " " ++ ((hexOf (take written buffer) ∷ []) ++ word "\n")
+
 -- the bytes of a reply follow only where there are any
 unfoldable pub replyText : MessageAnswer → (buffer : List ℕ) → List (List ℕ)
-replyText answer buffer =
-    countsText answer ++ cond (eqb (answer .written) 0) (word "\n") (word " " ++ ((hexOf (take (answer .written) buffer) ∷ []) ++ word "\n"))
+replyText answer buffer = countsText answer ++ cond (eqb (answer .written) 0) (word "\n") (bytesText (answer .written) buffer)
 
--- what a message answered, by what became of it: a Move and a Reply are accepted
+-- what a message answered, by what became of it: a Move, a Reply and a Check are accepted
 abbrev pub endingText : MessageOutcome → MessageAnswer → (buffer : List ℕ) → List (List ℕ)
 endingText Moved answer buffer = word " accepted" ++ replyText answer buffer
 endingText Replied answer buffer = word " accepted" ++ replyText answer buffer
 endingText Repeated answer buffer = word " repeated" ++ replyText answer buffer
+endingText Responded answer buffer = word " accepted" ++ replyText answer buffer
 endingText (Declined why) answer buffer = refusalText why
 
 -- what a message answered, with the buffer that its reply is in
 unfoldable pub messageText : MessageAnswer → (buffer : List ℕ) → List (List ℕ)
 messageText answer buffer = endingText (answer .outcome) answer buffer
+
+-- what an announcement answered, by its outcome
+abbrev pub announcedText : Outcome → Announcement → (buffer : List ℕ) → List (List ℕ)
+announcedText Accepted answer buffer = field " accepted bytes " (answer .written) ++ bytesText (answer .written) buffer
+announcedText (Refused why) answer buffer = refusalText why
+
+-- what an announcement answered, with the buffer that it is in
+unfoldable pub announcementText : Announcement → (buffer : List ℕ) → List (List ℕ)
+announcementText answer buffer = announcedText (answer .outcome) answer buffer

@@ -14,16 +14,18 @@ use Rattle.slot.specs.declared.Status.the-variants.{Unverified, Active, Depreca
 use Rattle.path.specs.declared.Preference.the-variants.{NoPreference, Prefers}
 use Rattle.association.specs.declared.PeerId.the-variants.{NoneSeen, Highest}
 use Rattle.association.specs.declared.Association.{Association}
+use Rattle.association.specs.declared.Outcome.{Outcome}
 use Rattle.association.specs.declared.Outcome.the-variants.{Accepted, Refused}
+use Rattle.announcement.specs.declared.Announcement.{Announcement}
 use Rattle.payload.specs.declared.SendOutcome.the-variants.{Granted, Denied}
 use Rattle.update.specs.declared.MessageOutcome.{MessageOutcome}
-use Rattle.update.specs.declared.MessageOutcome.the-variants.{Moved, Replied, Repeated, Declined}
+use Rattle.update.specs.declared.MessageOutcome.the-variants.{Moved, Replied, Repeated, Responded, Declined}
 use Rattle.update.specs.declared.MessageAnswer.{MessageAnswer}
-use Rattle.trace.specs.declared.Call.the-variants.{Start, Message, Arrival, Send, Tick, Malformed}
+use Rattle.trace.specs.declared.Call.the-variants.{Start, Message, Arrival, Send, Tick, Announce, Malformed}
 use Rattle.lines.specs.Laid.{laidOut, laidEnd, Laid}
 use Rattle.lines.specs.Words.{ascii}
 use Rattle.lines.specs.State.{addressText, statusText, locatorText, slotText, slotsText, peerText, preferenceText, numbersText, headText, stateText}
-use Rattle.lines.specs.Answers.{nameText, callText, refusalText, outcomeText, sendText, countsText, replyText, messageText}
+use Rattle.lines.specs.Answers.{nameText, callText, refusalText, outcomeText, sendText, countsText, bytesText, replyText, messageText, announcementText}
 
 -- slot n holds 2001:db8::low
 abbrev held : ℕ → Status → Slot
@@ -75,13 +77,14 @@ answers : map joined
     ∷ callText 8 (Arrival 1)
     ∷ callText 9 (Send 1)
     ∷ callText 11 (Tick 1)
+    ∷ callText 12 (Announce (record { room = 56; count = 1; inbound = 3; keymat = 0 }))
     ∷ callText 10 Malformed
     ∷ outcomeText Accepted
     ∷ outcomeText (Refused (refusal 16))
     ∷ sendText (Granted 3)
     ∷ sendText (Denied (refusal 15))
     ∷ [])
-    ≡ map ascii ("0 start" ∷ "1 message" ∷ "8 arrival" ∷ "9 send" ∷ "11 tick" ∷ "10 malformed" ∷ " accepted\n" ∷ " refused 16\n" ∷ " granted slot 3\n" ∷ " refused 15\n" ∷ [])
+    ≡ map ascii ("0 start" ∷ "1 message" ∷ "8 arrival" ∷ "9 send" ∷ "11 tick" ∷ "12 announcement" ∷ "10 malformed" ∷ " accepted\n" ∷ " refused 16\n" ∷ " granted slot 3\n" ∷ " refused 15\n" ∷ [])
 unfolding digitsOf decimalOf nameText callText refusalText outcomeText sendText
 answers = refl
 
@@ -89,17 +92,28 @@ answers = refl
 abbrev told : MessageOutcome → (written checks : ℕ) → MessageAnswer
 told outcome written checks = record { outcome = outcome; written = written; checks = checks; keymat = 7; association = first }
 
--- of a buffer of three bytes: a reply of two, one of none, and a refusal
+-- of a buffer of three bytes: a reply of two, one of none, an answer to a check, and a refusal
 messages : map (λ (answer : MessageAnswer). joined (messageText answer (1 ∷ 0xc1 ∷ 9 ∷ [])))
-    (told Moved 2 1 ∷ told Repeated 1 0 ∷ told Replied 0 0 ∷ told (Declined (refusal 8)) 0 0 ∷ [])
+    (told Moved 2 1 ∷ told Repeated 1 0 ∷ told Replied 0 0 ∷ told Responded 3 0 ∷ told (Declined (refusal 22)) 0 0 ∷ [])
     ≡ map ascii
     (" accepted reply 2 checks 1 keymat 7 01c1\n"
     ∷ " repeated reply 1 checks 0 keymat 7 01\n"
     ∷ " accepted reply 0 checks 0 keymat 7\n"
-    ∷ " refused 8\n"
+    ∷ " accepted reply 3 checks 0 keymat 7 01c109\n"
+    ∷ " refused 22\n"
     ∷ [])
-unfolding hexOf digitsOf decimalOf refusalText countsText replyText messageText
+unfolding hexOf digitsOf decimalOf refusalText countsText bytesText replyText messageText
 messages = refl
+
+-- what an announcement answered that wrote so many bytes
+abbrev announced : Outcome → (written : ℕ) → Announcement
+announced outcome written = record { outcome = outcome; written = written; association = first }
+
+-- of the same buffer: an announcement of two bytes, and a refusal
+announcements : map (λ (answer : Announcement). joined (announcementText answer (1 ∷ 0xc1 ∷ 9 ∷ []))) (announced Accepted 2 ∷ announced (Refused (refusal 21)) 0 ∷ [])
+    ≡ map ascii (" accepted bytes 2 01c1\n" ∷ " refused 21\n" ∷ [])
+unfolding hexOf digitsOf decimalOf refusalText bytesText announcementText
+announcements = refl
 
 -- ---- texts one after another
 -- "ab", nothing, "c" from the second byte of a buffer: each stands where the one before it ends

@@ -2,6 +2,7 @@
 use crate::words::put_bytes;
 use crate::words::put_field;
 use crate::words::put_word;
+use announcement::Announcement;
 use association::Outcome;
 use payload::SendOutcome;
 use refusal::Refusal;
@@ -12,7 +13,7 @@ use update::MessageAnswer;
 use update::MessageOutcome;
 ghost use mathlib.Core.List.{_∷_};
 ghost use Rattle.lines.specs.Laid.{Laid};
-ghost use Rattle.lines.specs.Answers.{nameText, callText, refusalText, outcomeText, sendText, countsText, replyText, messageText};
+ghost use Rattle.lines.specs.Answers.{nameText, callText, refusalText, outcomeText, sendText, countsText, bytesText, replyText, messageText, announcementText};
 
 fn put_name(out: &mut [u8], at: usize, call: Call) -> usize
     ensures { λ r. ⌜ Laid (nameText call) at (now (out .entry)) (now (out .exit)) r ⌝ }
@@ -23,6 +24,7 @@ fn put_name(out: &mut [u8], at: usize, call: Call) -> usize
         Call::Arrival(_) => put_word(out, at, b" arrival"),
         Call::Send(_) => put_word(out, at, b" send"),
         Call::Tick(_) => put_word(out, at, b" tick"),
+        Call::Announce(_) => put_word(out, at, b" announcement"),
         Call::Malformed => put_word(out, at, b" malformed"),
     }
 }
@@ -65,6 +67,19 @@ pub(crate) fn put_send(out: &mut [u8], at: usize, outcome: SendOutcome) -> usize
     }
 }
 
+// The first so many bytes of the buffer, which were written.
+fn put_written(out: &mut [u8], at: usize, count: usize, buffer: &[u8]) -> usize
+    ensures { λ r. ⌜ Laid (bytesText count (now (buffer .entry))) at (now (out .entry)) (now (out .exit)) r ⌝ }
+{
+    let written = Section {
+        start: 0,
+        end: count,
+    };
+    let at = put_word(out, at, b" ");
+    let at = put_bytes(out, at, sections::part(buffer, written));
+    put_word(out, at, b"\n")
+}
+
 // The numbers that an answered message tells.
 fn put_counts(out: &mut [u8], at: usize, answer: MessageAnswer) -> usize
     ensures { λ r. ⌜ Laid (countsText answer) at (now (out .entry)) (now (out .exit)) r ⌝ }
@@ -82,13 +97,7 @@ fn put_reply(out: &mut [u8], at: usize, answer: MessageAnswer, reply: &[u8]) -> 
     if answer.written == 0 {
         return put_word(out, at, b"\n");
     }
-    let written = Section {
-        start: 0,
-        end: answer.written,
-    };
-    let at = put_word(out, at, b" ");
-    let at = put_bytes(out, at, sections::part(reply, written));
-    put_word(out, at, b"\n")
+    put_written(out, at, answer.written, reply)
 }
 
 // How an answered message ended, what it tells and its reply.
@@ -108,6 +117,26 @@ pub(crate) fn put_message(out: &mut [u8], at: usize, answer: MessageAnswer, repl
         MessageOutcome::Moved => put_ended(out, at, b" accepted", answer, reply),
         MessageOutcome::Replied => put_ended(out, at, b" accepted", answer, reply),
         MessageOutcome::Repeated => put_ended(out, at, b" repeated", answer, reply),
+        MessageOutcome::Responded => put_ended(out, at, b" accepted", answer, reply),
         MessageOutcome::Declined(why) => put_refusal(out, at, why),
+    }
+}
+
+// What an announcement answered, with the buffer that it is in.
+pub(crate) fn put_announcement(
+    out: &mut [u8],
+    at: usize,
+    answer: Announcement,
+    buffer: &[u8],
+) -> usize
+    ensures { λ r. ⌜ Laid (announcementText answer (now (buffer .entry))) at (now (out .entry)) (now (out .exit)) r ⌝ }
+{
+    let outcome = answer.outcome;
+    match outcome {
+        Outcome::Accepted => {
+            let at = put_field(out, at, b" accepted bytes ", answer.written as u64);
+            put_written(out, at, answer.written, buffer)
+        }
+        Outcome::Refused(why) => put_refusal(out, at, why),
     }
 }

@@ -1,12 +1,16 @@
 // The calls of a trace: each is made, and its line and the state after it are put into the text.
 use crate::answers;
 use crate::state;
+use announcement::Announcement;
+use announcement::OwnLocator;
 use association::Answer;
 use association::Association;
 use association::Outcome;
+use locator_set::SET_LIMIT;
 use reply_form::NONCE_COUNT;
 use sections::Record;
 use text::put;
+use trace::AnnounceCall;
 use trace::Call;
 use trace::MessageCall;
 use trace::ROOM_LIMIT;
@@ -102,6 +106,40 @@ fn make_message(
     answered(used, answer.association)
 }
 
+// Announces a list, with the first so many bytes of the buffer.
+fn announce_list(
+    a: Association,
+    list: [OwnLocator; SET_LIMIT],
+    call: AnnounceCall,
+    buffer: &mut [u8],
+    room: usize,
+) -> Announcement
+    requires { ⌜ room ≤ length (now buffer) ⌝ }
+{
+    announce::announce(
+        a,
+        list,
+        call.count,
+        call.inbound,
+        call.keymat,
+        &mut buffer[0..room],
+    )
+}
+
+fn make_announcement(
+    s: &[u8],
+    found: Record,
+    call: AnnounceCall,
+    run: Run,
+    buffer: &mut [u8; ROOM_LIMIT],
+    out: &mut [u8],
+) -> Run {
+    let list = entries::list_in(s, found);
+    let answer = announce_list(run.association, list, call, buffer, widened(call.room));
+    let used = answers::put_announcement(out, run.used, answer, buffer);
+    answered(used, answer.association)
+}
+
 fn make_send(size: u64, run: Run, out: &mut [u8]) -> Run {
     let answer = payload::send(run.association, size);
     let outcome = answer.outcome;
@@ -124,6 +162,7 @@ fn needs_association(call: Call) -> bool {
         Call::Arrival(_) => true,
         Call::Send(_) => true,
         Call::Tick(_) => true,
+        Call::Announce(_) => true,
         Call::Malformed => false,
     }
 }
@@ -148,6 +187,7 @@ fn make_call(
         Call::Arrival(size) => keep_answer(payload::arrival(run.association, size), run, out),
         Call::Send(size) => make_send(size, run, out),
         Call::Tick(time) => keep_answer(clock::tick(run.association, time), run, out),
+        Call::Announce(announce) => make_announcement(s, found, announce, run, reply, out),
         Call::Malformed => at_place(run, put(out, run.used, b"\n")),
     }
 }

@@ -1,8 +1,8 @@
 // Replays a trace: reads the file that its argument names, a record at a time, makes each record's call, and prints what the call answers and the
 // association that it leaves. docs/DESIGN.md has the form of a trace and of the lines.
-// Crate trace decodes a record, crate lines says what each line is, and crate text spells numbers. calls.rt makes the calls; answers.rt, state.rt and
-// words.rt put the lines; this file reads and writes. Depends on message, payload, clock, association and the crates of their types, on trace, sections,
-// lines and text, and on the kit's os, io and libc.
+// Crates trace and entries decode a record, crate lines says what each line is, and crate text spells numbers. calls.rt makes the calls; answers.rt,
+// state.rt and words.rt put the lines; this file reads and writes. Depends on announce, message, payload, clock, association and the crates of their
+// types, on trace, entries, sections, lines and text, and on the kit's os, io and libc.
 mod answers;
 mod calls;
 mod state;

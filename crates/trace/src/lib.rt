@@ -1,12 +1,17 @@
-// A record of a trace as the call that it stands for. Depends on sections, address, reply_form, octets, boolean.
+// A record of a trace as the call that it stands for. Depends on entries, sections, address, reply_form, boolean.
 use address::Address;
+use entries::ADDRESS_SIZE;
+use entries::NUMBER_SIZE;
+use entries::are_entries;
+use entries::entry_count;
+use entries::is_narrow;
+use entries::number;
 use reply_form::NONCE_COUNT;
 use sections::Record;
 use sections::Section;
 ghost use mathlib.Core.Path.{_≡_};
 ghost use mathlib.Core.Bool.{true};
-ghost use Prim.Native.Nat.{_<_};
-ghost use Rattle.trace.specs.Calls.{numberOf, hasSizes, isNarrow, isStart, startOf, isMessage, messageOf, plainOf, callOf, noncesOf};
+ghost use Rattle.trace.specs.Calls.{hasSizes, isStart, startOf, isMessage, messageOf, hasListSizes, isAnnouncement, announcementOf, plainOf, callOf, noncesOf};
 
 // The first number of a record says which call it is.
 const START: u64 = 0;
@@ -19,15 +24,15 @@ const SEND: u64 = 3;
 
 const TICK: u64 = 4;
 
-// The bytes of a number, and of an address.
-const NUMBER_SIZE: usize = 8;
+const ANNOUNCE: u64 = 5;
 
-const ADDRESS_SIZE: usize = 16;
+// The bytes of the four numbers of an announcement's entry, which are also those of its other four.
+const ENTRY_SIZE: usize = 32;
 
-// One past the last number of 32 bits.
-const NARROW_LIMIT: u64 = 4294967296;
+// The last number of 16 bits.
+const SHORT_LAST: u64 = 65535;
 
-// The longest reply buffer that a trace may name: 16 bits hold its length.
+// The longest buffer that a trace may name: 16 bits hold its length.
 pub const ROOM_LIMIT: usize = 65535;
 
 // What a start is given.
@@ -45,6 +50,14 @@ pub struct MessageCall {
     pub room: u16,
 }
 
+// What an announcement is given besides its list: the length of its buffer, how many entries the list has, the new inbound SPI and the KEYMAT Index.
+pub struct AnnounceCall {
+    pub room: u16,
+    pub count: usize,
+    pub inbound: u32,
+    pub keymat: u16,
+}
+
 // The call that a record stands for, or none that its sections fit.
 pub enum Call {
     Start(StartCall),
@@ -52,19 +65,8 @@ pub enum Call {
     Arrival(u64),
     Send(u64),
     Tick(u64),
+    Announce(AnnounceCall),
     Malformed,
-}
-
-// Number k of a section.
-fn number(s: &[u8], section: Section, k: usize) -> u64
-    requires { ⌜ k < 8 ⌝ }
-    ensures { λ r. ⌜ r ≡ numberOf (now (s .entry)) section k ⌝ }
-{
-    let start = section.start;
-    if s.len() <= start {
-        return 0;
-    }
-    octets::u64_at(s, start + NUMBER_SIZE * k)
 }
 
 // The sections have these sizes.
@@ -78,13 +80,6 @@ fn has_sizes(found: Record, numbers: usize, body: usize, nonces: usize) -> bool
             sections::size(found.nonces) == nonces,
         ),
     )
-}
-
-// The number fits 32 bits.
-fn is_narrow(n: u64) -> bool
-    ensures { λ r. ⌜ r ≡ isNarrow n ⌝ }
-{
-    n < NARROW_LIMIT
 }
 
 fn is_start(s: &[u8], found: Record) -> bool
@@ -155,6 +150,59 @@ fn message_of(s: &[u8], found: Record) -> MessageCall
     }
 }
 
+// The sections have the sizes of an announcement: the first by a quotient, since a product might not fit.
+fn has_list_sizes(found: Record) -> bool
+    ensures { λ r. ⌜ r ≡ hasListSizes found ⌝ }
+{
+    let numbers = sections::size(found.numbers);
+    let count = entry_count(found);
+    boolean::both(
+        boolean::both(numbers % ENTRY_SIZE == 0, numbers / ENTRY_SIZE == count + 1),
+        boolean::both(
+            sections::size(found.body) == ADDRESS_SIZE * count,
+            sections::size(found.nonces) == 0,
+        ),
+    )
+}
+
+fn is_announcement(s: &[u8], found: Record) -> bool
+    ensures { λ r. ⌜ r ≡ isAnnouncement (now (s .entry)) found ⌝ }
+{
+    let numbers = found.numbers;
+    let place = 2 + 4 * entry_count(found);
+    boolean::both(
+        has_list_sizes(found),
+        boolean::both(
+            number(s, numbers, 0) == ANNOUNCE,
+            boolean::both(
+                number(s, numbers, 1) <= ROOM_LIMIT as u64,
+                boolean::both(
+                    is_narrow(number(s, numbers, place)),
+                    boolean::both(
+                        number(s, numbers, place + 1) <= SHORT_LAST,
+                        are_entries(s, found),
+                    ),
+                ),
+            ),
+        ),
+    )
+}
+
+fn announcement_of(s: &[u8], found: Record) -> AnnounceCall
+    requires { ⌜ isAnnouncement (now s) found ≡ true ⌝ }
+    ensures { λ r. ⌜ r ≡ announcementOf (now (s .entry)) found ⌝ }
+{
+    let numbers = found.numbers;
+    let count = entry_count(found);
+    let place = 2 + 4 * count;
+    AnnounceCall {
+        room: number(s, numbers, 1) as u16,
+        count,
+        inbound: number(s, numbers, place) as u32,
+        keymat: number(s, numbers, place + 1) as u16,
+    }
+}
+
 // The call with one argument that a number names.
 fn plain_of(which: u64, argument: u64) -> Call
     ensures { λ r. ⌜ r ≡ plainOf which argument ⌝ }
@@ -177,6 +225,9 @@ pub fn call_in(s: &[u8], found: Record) -> Call
     }
     if is_message(s, found) {
         return Call::Message(message_of(s, found));
+    }
+    if is_announcement(s, found) {
+        return Call::Announce(announcement_of(s, found));
     }
     if has_sizes(found, 2 * NUMBER_SIZE, 0, 0) {
         return plain_of(number(s, numbers, 0), number(s, numbers, 1));

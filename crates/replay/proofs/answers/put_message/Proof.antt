@@ -1,5 +1,5 @@
 -- `replay::answers::put_message` meets its contract: its texts one after another. Assumes nothing.
-use Rattle.update.specs.declared.MessageOutcome.the-variants.{Moved, Replied, Repeated, Declined}
+use Rattle.update.specs.declared.MessageOutcome.the-variants.{Moved, Replied, Repeated, Responded, Declined}
 use Rattle.lines.proofs.Joined.{same}
 use Rattle.lines.proofs.Cases.{by-outcome}
 use borrow.Author.Needs.{needs}
@@ -33,6 +33,15 @@ slice-aggregate-put-ended-3 c = search needs
 put-ended-requires-3 : tie.Need-put-ended-requires-3
 put-ended-requires-3 c κs = search needs
 
+enum-told-4 : tie.Need-enum-told-4
+enum-told-4 c = search needs
+
+slice-aggregate-put-ended-4 : tie.Need-slice-aggregate-put-ended-4
+slice-aggregate-put-ended-4 c = search needs
+
+put-ended-requires-4 : tie.Need-put-ended-requires-4
+put-ended-requires-4 c κs = search needs
+
 enum-known-outcome : tie.Need-enum-known-outcome
 enum-known-outcome c = search needs
 
@@ -61,7 +70,13 @@ same-length-4 : tie.Need-same-length-4
 same-length-4 c = search needs
 
 returns-4 : tie.Need-returns-4
-returns-4 c =
+returns-4 c = let a = c .before .before .before .before .before .before .before .before .before .args in same (by-outcome (a .answer) (a .reply .now) Responded (c .before .before .before .before .before .enum-told4 .given .1)) (c .before .before .put-ended4 .ensures)
+
+same-length-5 : tie.Need-same-length-5
+same-length-5 c = search needs
+
+returns-5 : tie.Need-returns-5
+returns-5 c =
     let a = c .before .before .before .before .before .before .before .before .before .args in
     same (by-outcome (a .answer) (a .reply .now) (Declined (c .before .before .before .before .before .outcome .given .0 .0)) (c .before .before .before .before .before .outcome .given .1)) (c .before .before .put-refusal .ensures)
 
@@ -78,6 +93,9 @@ put-message-spec =
     enum-told-3
     slice-aggregate-put-ended-3
     put-ended-requires-3
+    enum-told-4
+    slice-aggregate-put-ended-4
+    put-ended-requires-4
     enum-known-outcome
     put-refusal-requires
     same-length
@@ -87,4 +105,6 @@ put-message-spec =
     same-length-3
     returns-3
     same-length-4
-    returns-4)
+    returns-4
+    same-length-5
+    returns-5)

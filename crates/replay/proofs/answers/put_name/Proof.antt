@@ -58,6 +58,15 @@ slice-aggregate-put-word-6 c = search needs
 put-word-requires-6 : tie.Need-put-word-requires-6
 put-word-requires-6 c κs = search needs
 
+enum-told-7 : tie.Need-enum-told-7
+enum-told-7 c = search needs
+
+slice-aggregate-put-word-7 : tie.Need-slice-aggregate-put-word-7
+slice-aggregate-put-word-7 c = search needs
+
+put-word-requires-7 : tie.Need-put-word-requires-7
+put-word-requires-7 c κs = search needs
+
 same-length : tie.Need-same-length
 same-length c = search needs
 
@@ -100,6 +109,13 @@ returns-6 : tie.Need-returns-6
 unfolding nameText
 returns-6 c = rw (c .before .before .before .before .before .enum-told6 .given .1) (c .before .before .put-word6 .ensures)
 
+same-length-7 : tie.Need-same-length-7
+same-length-7 c = search needs
+
+returns-7 : tie.Need-returns-7
+unfolding nameText
+returns-7 c = rw (c .before .before .before .before .before .enum-told7 .given .1) (c .before .before .put-word7 .ensures)
+
 pub put-name-spec : {M : Type 1} → statement M
 put-name-spec =
     tie.close
@@ -122,6 +138,9 @@ put-name-spec =
     enum-told-6
     slice-aggregate-put-word-6
     put-word-requires-6
+    enum-told-7
+    slice-aggregate-put-word-7
+    put-word-requires-7
     same-length
     returns
     same-length-2
@@ -133,4 +152,6 @@ put-name-spec =
     same-length-5
     returns-5
     same-length-6
-    returns-6)
+    returns-6
+    same-length-7
+    returns-7)

@@ -1,10 +1,6 @@
 -- `replay::answers::put_reply` meets its contract: its texts one after another. Assumes nothing.
-use Prim.Native.Nat.{ℕ}
-use mathlib.Core.Path.{ap, _∙_}
-use mathlib.Core.List.{List, [], _∷_}
-use Rattle.text.specs.Texts.{hexOf}
 use Rattle.lines.proofs.Joined.{after, same}
-use Rattle.lines.proofs.Cases.{reply-none, reply-some, first-bytes}
+use Rattle.lines.proofs.Cases.{reply-none, reply-some}
 use borrow.Author.Needs.{needs}
 use Rattle.replay.proofs.answers.put_reply.Statement.{statement}
 use Rattle.replay.proofs.answers.put_reply.Tie as tie
@@ -23,34 +19,19 @@ same-length c = search needs
 
 returns : tie.Need-returns
 returns c =
-    let a = c .before .before .before .before .before .before .before .before .before .before .before .before .before .args in same (reply-none (a .answer) (a .reply .now) (c .before .before .before .before .before .if1 .taken))
-    (after (c .before .before .before .before .before .before .before .before .before .put-counts .ensures) (c .before .before .put-word .ensures))
+    let a = c .before .before .before .before .before .before .before .before .before .before .before .before .before .args in
+    same (reply-none (a .answer) (a .reply .now) (c .before .before .before .before .before .if1 .taken)) (after (c .before .before .before .before .before .before .before .before .before .put-counts .ensures) (c .before .before .put-word .ensures))
 
-slice-aggregate-put-word-2 : tie.Need-slice-aggregate-put-word-2
-slice-aggregate-put-word-2 c = search needs
-
-put-word-requires-2 : tie.Need-put-word-requires-2
-put-word-requires-2 c κs = search needs
-
-part-requires : tie.Need-part-requires
-part-requires c κs = search needs
-
-put-bytes-requires : tie.Need-put-bytes-requires
-put-bytes-requires c κs = search needs
-
-slice-aggregate-put-word-3 : tie.Need-slice-aggregate-put-word-3
-slice-aggregate-put-word-3 c = search needs
-
-put-word-requires-3 : tie.Need-put-word-requires-3
-put-word-requires-3 c κs = search needs
+put-written-requires : tie.Need-put-written-requires
+put-written-requires c κs = search needs
 
 same-length-2 : tie.Need-same-length-2
 same-length-2 c = search needs
 
 returns-2 : tie.Need-returns-2
 returns-2 c =
-    let a = c .before .before .before .before .before .before .before .before .before .before .before .before .before .before .before .before .before .before .before .before .before .before .before .args in
-    same (reply-some (a .answer) (a .reply .now) (c .before .before .before .before .before .before .before .before .before .before .before .before .before .before .before .if1 .left)) (after (c .before .before .before .before .before .before .before .before .before .before .before .before .before .before .before .before .before .before .before .put-counts .ensures) (after (c .before .before .before .before .before .before .before .before .before .before .before .before .put-word2 .ensures) (after (same (ap (λ (b : List ℕ). hexOf b ∷ []) (c .before .before .before .before .before .before .before .before .part .ensures .bytes ∙ first-bytes (a .answer .written) (a .reply .now))) (c .before .before .before .before .before .before .before .put-bytes .ensures)) (c .before .before .put-word3 .ensures))))
+    let a = c .before .before .before .before .before .before .before .before .before .before .before .before .args in
+    same (reply-some (a .answer) (a .reply .now) (c .before .before .before .before .if1 .left)) (after (c .before .before .before .before .before .before .before .before .put-counts .ensures) (c .before .before .put-written .ensures))
 
 pub put-reply-spec : {M : Type 1} → statement M
 put-reply-spec =
@@ -61,11 +42,6 @@ put-reply-spec =
     put-word-requires
     same-length
     returns
-    slice-aggregate-put-word-2
-    put-word-requires-2
-    part-requires
-    put-bytes-requires
-    slice-aggregate-put-word-3
-    put-word-requires-3
+    put-written-requires
     same-length-2
     returns-2)
