@@ -121,7 +121,7 @@ fn print_message(answer: MessageAnswer, buffer: &[u8]) {
     io::write_all(STDOUT_FILENO, b"message");
     let outcome = answer.outcome;
     match outcome {
-        MessageOutcome::Moved | MessageOutcome::Replied => {
+        MessageOutcome::Moved | MessageOutcome::Replied | MessageOutcome::Responded => {
             io::write_all(STDOUT_FILENO, b" accepted");
             print_reply(answer, buffer);
         }

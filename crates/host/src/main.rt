@@ -1,11 +1,14 @@
-// A host that makes the five calls, one after another, on one association. README.md shows this file whole.
-// Depends on association, message, payload, clock and the crates of their types, on writer to build a packet, and on the kit's io and libc to print.
+// A host that makes the six calls, one after another, on one association. README.md shows this file whole.
+// Depends on association, message, payload, clock, announce and the crates of their types, on writer to build a packet, and on the kit's io and libc to
+// print.
 use address::Address;
+use announcement::OwnLocator;
 use association::Answer;
 use association::Association;
 use association::Outcome;
 use judge::REPLY_ROOM;
 use libc::STDOUT_FILENO;
+use locator_set::SET_LIMIT;
 use payload::SendOutcome;
 use refusal::Refusal;
 use update::MessageOutcome;
@@ -74,9 +77,37 @@ fn handle_update(a: Association, packet: &[u8], authentic: bool) -> Association 
     let outcome = answer.outcome;
     match outcome {
         MessageOutcome::Declined(why) => say_refused(why),
-        MessageOutcome::Moved | MessageOutcome::Replied | MessageOutcome::Repeated => {
+        MessageOutcome::Moved
+        | MessageOutcome::Replied
+        | MessageOutcome::Responded
+        | MessageOutcome::Repeated => {
             say_number(b"bytes of the reply to send back: ", answer.written as u64);
         }
+    }
+    answer.association
+}
+
+// Our own addresses, when they change: a list of which the first entries count, the new inbound SPI, a KEYMAT Index, and a buffer for the parameters of the
+// UPDATE to send. 256 bytes hold every announcement.
+fn announce(a: Association) -> Association {
+    let address = Address {
+        high: 0x2001_0db8_0000_0000,
+        low: 9,
+    };
+    let entry = OwnLocator {
+        address,
+        lifetime: 60,
+        kind: 0,
+        traffic: 0,
+        preferred: true,
+    };
+    let list = [entry; SET_LIMIT];
+    let mut parameters = [0u8; 256];
+    let answer = announce::announce(a, list, 1, 0x1002, 0, &mut parameters);
+    let outcome = answer.outcome;
+    match outcome {
+        Outcome::Accepted => say_number(b"bytes of parameters to send: ", answer.written as u64),
+        Outcome::Refused(why) => say_refused(why),
     }
     answer.association
 }
@@ -104,5 +135,6 @@ fn main() {
     a = handle_update(a, &packet, true);
     a = send(a, 1000);
     a = send(a, 1000);
-    kept(clock::tick(a, 105));
+    a = kept(clock::tick(a, 105));
+    announce(a);
 }
