@@ -10,7 +10,6 @@ use writer::put_u64;
 ghost use Prim.Native.Nat.{ℕ, _+_, _%_, _≤_};
 ghost use mathlib.Core.Path.{_≡_};
 ghost use lib.ListN.{length, take};
-ghost use Rattle.parameter.specs.Parameters.{takes};
 ghost use Rattle.locator.specs.Locators.{unit};
 ghost use Rattle.locator_set.specs.Sets.{mark};
 ghost use Rattle.writer.specs.Writes.{writtenAt};
@@ -124,19 +123,12 @@ fn put_padding(buffer: &mut [u8], at: usize, size: usize)
     }
 }
 
-// The bytes that a parameter takes whose length L is `size`.
-fn taken_by(size: usize) -> usize
-    requires { ⌜ size ≤ 224 ⌝ }
-    ensures { λ r. ⌜ r ≡ takes size ⌝ }
-{
-    11 + size - (size + 3) % 8
-}
-
 // The bytes of LOCATOR_SET with the first `count` entries, whatever the SPI.
 pub fn locator_set_size(list: [OwnLocator; SET_LIMIT], count: usize) -> usize
     ensures { λ r. ⌜ ((spi : ℕ) → r ≡ length (locatorSetBytes spi (take count list))) ⌝ }
 {
-    taken_by(own_list::set_size(list, count))
+    let size = own_list::set_size(list, count);
+    parameter::taken_by(size as u16)
 }
 
 // Writes LOCATOR_SET with the first `count` entries, and `spi` in those of type 1; nothing where the buffer ends before it does.
@@ -150,7 +142,7 @@ pub fn put_locator_set(
     ensures { λ _. ⌜ now (buffer .exit) ≡ writtenAt at (locatorSetBytes spi (take count list)) (now (buffer .entry)) ⌝ }
 {
     let size = own_list::set_size(list, count);
-    let taken = taken_by(size);
+    let taken = parameter::taken_by(size as u16);
     if buffer.len() < taken {
         return;
     }

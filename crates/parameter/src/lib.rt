@@ -2,7 +2,7 @@
 use refusal::Refusal;
 ghost use mathlib.Core.Path.{_≡_};
 ghost use Rattle.parameter.specs.Types.{refusedType, wrongLength};
-ghost use Rattle.parameter.specs.Parameters.{stepAt};
+ghost use Rattle.parameter.specs.Parameters.{takes, stepAt};
 
 // The types of parameters that are known (document 01, "The bytes of a message").
 pub const ESP_INFO: usize = 65;
@@ -49,6 +49,14 @@ pub enum Step {
     Found(Parameter),
     End,
     Refused(Refusal),
+}
+
+// The bytes that a parameter takes in all whose length L is this.
+pub fn taken_by(len: u16) -> usize
+    ensures { λ r. ⌜ r ≡ takes len ⌝ }
+{
+    let long = len as usize;
+    11 + long - (long + 3) % 8
 }
 
 // A type that refusal 4 refuses.

@@ -33,14 +33,6 @@ pub fn is_long_opaque(opaque: &[u8]) -> bool
     OPAQUE_LIMIT < opaque.len()
 }
 
-// The bytes that an echo response with so many opaque bytes takes.
-fn response_size(len: usize) -> usize
-    requires { ⌜ len ≤ opaqueLimit ⌝ }
-    ensures { λ r. ⌜ r ≡ takes len ⌝ }
-{
-    11 + len - (len + 3) % 8
-}
-
 // Writes ECHO_RESPONSE_SIGNED with these opaque bytes, and its padding.
 fn put_echo_response(buffer: &mut [u8], at: usize, opaque: &[u8])
     requires { ⌜ length (now opaque) ≤ opaqueLimit ⌝ }
@@ -48,7 +40,7 @@ fn put_echo_response(buffer: &mut [u8], at: usize, opaque: &[u8])
     ensures { λ _. ⌜ now (buffer .exit) ≡ writtenAt at (echoResponseBytes (now (opaque .entry))) (now (buffer .entry)) ⌝ }
 {
     let len = opaque.len();
-    let padding = response_size(len) - HEAD_SIZE - len;
+    let padding = parameter::taken_by(len as u16) - HEAD_SIZE - len;
     let zeros = [0u8; PADDING_ROOM];
     reply::put_head(buffer, at, ECHO_RESPONSE_SIGNED as u16, len as u16);
     text::put(buffer, at + HEAD_SIZE, opaque);
@@ -64,7 +56,7 @@ fn write_response(buffer: &mut [u8], id: u32, opaque: &[u8]) -> usize
 {
     reply::write_ack(buffer, id);
     put_echo_response(buffer, ACK_SIZE, opaque);
-    ACK_SIZE + response_size(opaque.len())
+    ACK_SIZE + parameter::taken_by(opaque.len() as u16)
 }
 
 // The answer to a Repeated Check: what it would get if it were new, and nothing changed.

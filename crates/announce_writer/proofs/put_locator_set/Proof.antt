@@ -19,8 +19,11 @@ sized c = let a = c .before .before .args in c .set-size .ensures (a .spi) ∙ s
 set-size-requires : tie.Need-set-size-requires
 set-size-requires c κs = tt
 
+cast-taken-by : tie.Need-cast-taken-by
+cast-taken-by c = omega (arith, few c)
+
 taken-by-requires : tie.Need-taken-by-requires
-taken-by-requires c κs = few c
+taken-by-requires c κs = tt
 
 returns : tie.Need-returns
 returns c =
@@ -76,6 +79,7 @@ put-locator-set-spec =
     tie.close
     (tie.spec
     set-size-requires
+    cast-taken-by
     taken-by-requires
     returns
     sub-if2

@@ -8,8 +8,11 @@ use borrow.Author.Needs.{needs}
 use Rattle.respond.proofs.put_echo_response.Statement.{statement}
 use Rattle.respond.proofs.put_echo_response.Tie as tie
 
-response-size-requires : tie.Need-response-size-requires
-response-size-requires c κs = search needs
+cast-taken-by : tie.Need-cast-taken-by
+cast-taken-by c = search needs
+
+taken-by-requires : tie.Need-taken-by-requires
+taken-by-requires c κs = tt
 
 sub-padding : tie.Need-sub-padding
 sub-padding c = search needs
@@ -60,8 +63,8 @@ returns c =
     let one = two .before .before .before .before in
     let size = one .before .before in
     let a = size .before .before .before .args in
-    let size-is = size .response-size .ensures in
-    let n = size .response-size .result - 4 - length (a .opaque .now) - 0 in
+    let size-is = size .taken-by .ensures in
+    let n = size .taken-by .result - 4 - length (a .opaque .now) - 0 in
     let place = a .at + 4 + length (a .opaque .now) in
     echo-response-written (a .opaque .now) (a .at) n place (a .buffer .now) _ _ _ (size .before .before .before .pre .0) (size .before .before .before .pre .1) (omega arith) refl (one .put-head .ensures) (two .put .ensures .0) (three .put2 .ensures .0)
 
@@ -69,7 +72,8 @@ pub put-echo-response-spec : {M : Type 1} → statement M
 put-echo-response-spec =
     tie.close
     (tie.spec
-    response-size-requires
+    cast-taken-by
+    taken-by-requires
     sub-padding
     sub-padding-2
     cast-put-head

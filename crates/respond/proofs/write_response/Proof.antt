@@ -12,8 +12,11 @@ write-ack-requires c κs = search needs
 put-echo-response-requires : tie.Need-put-echo-response-requires
 put-echo-response-requires c κs = search needs
 
-response-size-requires : tie.Need-response-size-requires
-response-size-requires c κs = search needs
+cast-taken-by : tie.Need-cast-taken-by
+cast-taken-by c = search needs
+
+taken-by-requires : tie.Need-taken-by-requires
+taken-by-requires c κs = tt
 
 add-result : tie.Need-add-result
 add-result c = search needs
@@ -27,7 +30,7 @@ returns c =
     let first = second .before .before .before .before in
     let start = first .before .before .before .before in
     let a = start .args in
-    let size = c .response-size .ensures in (
+    let size = c .taken-by .ensures in (
       omega (arith, response-length (a .id) (a .opaque .now)),
       response-written (a .id) (a .opaque .now) (a .buffer .now) _ _ (start .pre .0) (start .pre .1) (first .write-ack .ensures .1) (second .put-echo-response .ensures),
     )
@@ -38,7 +41,8 @@ write-response-spec =
     (tie.spec
     write-ack-requires
     put-echo-response-requires
-    response-size-requires
+    cast-taken-by
+    taken-by-requires
     add-result
     same-length
     returns)
