@@ -1,4 +1,4 @@
--- "Two of ours agree". Assumes nothing.
+-- Two of ours agree. Assumes nothing.
 use Prim.Native.Nat.{ℕ, zero, suc, _+_, _^_, _<_, _≤_}
 use mathlib.Core.Path.{_≡_, refl, ap, _∙_}
 use mathlib.Core.Bool.{true, false}
@@ -142,6 +142,6 @@ module _ (e : Meeting) (h : Meets e) where
           (ap (λ (y : Handled). y .reply) (response-is w d below)) v given (reception e .left) peers-sound x has-check (nonce-small nonces (g .k) (h .sized));
     }
 
--- "Two of ours agree"
+-- Two of ours agree
 pub two-of-ours-agree : TwoOfOursAgree
 two-of-ours-agree = agrees

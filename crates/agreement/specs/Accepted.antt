@@ -1,4 +1,5 @@
--- Order 1, "Two of ours agree": the announcement "is accepted by a peer's association". The claim and its premises; `proofs/Accepted.antt` proves it.
+-- Law 3, its first part, in the words of `Agreement.antt`: the announcement "is accepted by a peer's association". The claim and its premises;
+-- `proofs/Accepted.antt` proves it.
 use Prim.Native.Nat.{ℕ}
 use mathlib.Core.Path.{_≡_}
 use mathlib.Core.Bool.{true, false}
@@ -19,7 +20,7 @@ pub record Awaits (a : Association) (es : List OwnLocator) (inbound keymat : ℕ
   pub outbound : b .outbound ≡ a .inbound
   -- "whose highest peer ID, if any, is below the announcement's"
   pub below : Below (b .peer) (a .next)
-  -- "and which rows 0, 1, 10 and 11 do not refuse"
+  -- "and which refusals 0, 1, 10 and 11 do not refuse"
   pub listens : Listens b room
   pub unrefused10 : refusal10 nonces (b .slots) ≡ false
   pub unrefused11 : refusal11 (b .next) (checksOf b (announcedFields a es inbound keymat) (announcedList es inbound)) ≡ false

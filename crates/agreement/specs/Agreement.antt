@@ -1,4 +1,8 @@
--- Order 1: "Two of ours agree". The claim and its premises; `proofs/Agreement.antt` proves it.
+-- Law 3: two of ours agree. In full, as the comments here and in the other files quote it: what an accepted announcement writes, behind a header and marked authentic,
+-- is accepted by a peer's association whose outbound SPI is our old inbound SPI, whose highest peer ID, if any, is below the announcement's, and which refusals 0,
+-- 1, 10 and 11 do not refuse; and the check that it writes for a new address, behind a header, is a Check to us, accepted where our highest peer ID, if any, is
+-- below the check's; and what we answer, behind a header, is a Reply to it that turns that address ACTIVE. The claim and its premises; `proofs/Agreement.antt`
+-- proves it.
 use Prim.Native.Nat.{ℕ, _+_, _^_, _<_}
 use mathlib.Core.Path.{_≡_}
 use mathlib.Core.Bool.{Bool, true, false, not, _||_}
@@ -104,7 +108,7 @@ inUse (some Deprecated) = false
 pub record Meets (e : Meeting) : Type 0 where
   -- "an accepted announcement .., behind a header"
   pub sent : Sent (e .ours) (e .list) (e .count) (e .inbound) (e .keymat) (e .room) (e .over .header) (e .over .tail)
-  -- "a peer's association whose outbound SPI is our old inbound SPI, whose highest peer ID, if any, is below the announcement's, and which rows 0, 1, 10 and 11
+  -- "a peer's association whose outbound SPI is our old inbound SPI, whose highest peer ID, if any, is below the announcement's, and which refusals 0, 1, 10 and 11
   -- do not refuse"
   pub awaits : Awaits (e .ours) (entries e) (e .inbound) (e .keymat) (e .peers) (e .over .nonces) (e .over .room)
   -- what the declared types hold them to
@@ -134,6 +138,6 @@ pub record Agrees (e : Meeting) (x : Address) : Type 0 where
       → Delivered v (response e k w .reply) echoResponseSigned
       → (ending e k w v .outcome ≡ Replied) × (statusIn x (ending e k w v .left .slots) ≡ some Active)
 
--- "Two of ours agree"
+-- Two of ours agree
 abbrev pub TwoOfOursAgree : Type 0
 TwoOfOursAgree = (e : Meeting) → Meets e → (x : Address) → New e x → Agrees e x

@@ -1,4 +1,5 @@
--- Order 1, "Two of ours agree": our answer "is a Reply to it that turns that address ACTIVE". The claim and its premises; `proofs/Answered.antt` proves it.
+-- Law 3, its third part, in the words of `Agreement.antt`: our answer "is a Reply to it that turns that address ACTIVE". The claim and its premises;
+-- `proofs/Answered.antt` proves it.
 use Prim.Native.Nat.{ℕ, _^_, _<_}
 use mathlib.Core.Path.{_≡_}
 use mathlib.Core.Bool.{true}

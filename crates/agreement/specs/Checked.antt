@@ -1,4 +1,5 @@
--- Order 1, "Two of ours agree": each check of the reply "is a Check to us". The claims and their premises; `proofs/Checked.antt` proves them.
+-- Law 3, its second part, in the words of `Agreement.antt`: each check of the reply "is a Check to us". The claims and their premises; `proofs/Checked.antt` proves
+-- them.
 use Prim.Native.Nat.{ℕ, _+_, _*_, _^_, _<_}
 use mathlib.Core.Path.{_≡_}
 use mathlib.Core.Bool.{true}

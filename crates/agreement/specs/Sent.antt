@@ -1,4 +1,4 @@
--- What goes over, and who hears it: the premises that the three packets have in common.
+-- What goes over, and who hears it: the premises that the three packets have in common. The words in quotation marks are law 3's, in `Agreement.antt`.
 use Prim.Native.Nat.{ℕ, _<_}
 use mathlib.Core.Path.{_≡_}
 use mathlib.Core.Bool.{true, false}

@@ -63,7 +63,7 @@ responses : map (responseBytes 7) ([] ∷ hex "aa" ∷ hex "aabbccdd" ∷ hex "a
 unfolding responseBytes parameterBytes bytesOf
 responses = refl
 
--- "16 to 80 bytes": of 0 and of 64 opaque bytes
+-- 16 to 80 bytes, of 0 to 64 opaque ones
 response-sizes : map (λ (n : ℕ). length (responseBytes 7 (replicate n 0xff))) (0 ∷ 1 ∷ 64 ∷ []) ≡ 16 ∷ 16 ∷ 80 ∷ []
 unfolding responseBytes parameterBytes bytesOf
 response-sizes = refl

@@ -1,4 +1,7 @@
--- Order 1: "Reading what we wrote gives back the list." The claim and its premises; `proofs/Read.antt` proves it.
+-- Law 1, order 1's "Reading what we wrote gives back the list.", in full, as the comments below quote it: for every accepted announcement and every 40-byte header
+-- before the written bytes for which the header's rule holds of the whole, the packet reads as a Move with these SPIs, this KEYMAT Index, this ID, no echo
+-- response, and exactly the list (type 1 entries with the new SPI); also where HOST_ID, HIP_MAC and HIP_SIGNATURE parameters follow, as they do on the wire: any
+-- tail of whole parameters whose types do not fall, each one of these three. The claim and its premises; `proofs/Read.antt` proves it.
 use Prim.Native.Nat.{ℕ, _^_, _<_}
 use mathlib.Core.Path.{_≡_}
 use mathlib.Core.Bool.{true}

@@ -1,4 +1,4 @@
--- Parameters as they stand on the wire, one after another: a sender may pad with any bytes.
+-- Parameters as they stand on the wire, one after another: a sender may pad with any bytes. The words in quotation marks are law 1's, in `Read.antt`.
 use Prim.Native.Nat.{ℕ, _+_, _^_, _<_, _≤_}
 use mathlib.Core.Path.{_≡_}
 use mathlib.Core.Bool.{true}

@@ -1,4 +1,8 @@
--- Order 1: "Writing what was read gives the same bytes." The claim and its premises; `proofs/Written.antt` proves it.
+-- Law 2, order 1's "Writing what was read .. gives the same bytes for those three parameters", in full, as the comments below quote it: for every packet that reads as
+-- a Move, where ESP_INFO's reserved bits, every locator's reserved bits and the set's padding are zero, NEW SPI is one we may announce and each type 1 SPI equals
+-- it: announcing the list read, with the NEW SPI and KEYMAT Index read, from any association that refusal 0 does not refuse whose inbound SPI and next own ID are
+-- the OLD SPI and ID read, into any buffer long enough, is accepted and writes the packet's three parameters, one after another (they need not be neighbours in
+-- the packet). The claim and its premises; `proofs/Written.antt` proves it.
 use Prim.Native.Nat.{ℕ, _+_, _-_, _<_, _≤_}
 use mathlib.Core.Path.{_≡_}
 use mathlib.Core.Bool.{false}
