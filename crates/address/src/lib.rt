@@ -8,12 +8,17 @@ pub struct Address {
     pub low: u64,
 }
 
-// Powers of two that cut an address: 2^24, 2^32 and 2^56.
-const POWER_24: u64 = 16777216;
+// The least high half of an address whose first byte is 0xff.
+const IPV6_MULTICAST: u64 = 0xff00_0000_0000_0000;
 
-const POWER_32: u64 = 4294967296;
+// The low halves of ::ffff:0.0.0.0, ::ffff:224.0.0.0, ::ffff:240.0.0.0 and ::ffff:255.255.255.255.
+const IPV4_UNSPECIFIED: u64 = 0xffff_0000_0000;
 
-const POWER_56: u64 = 72057594037927936;
+const IPV4_MULTICAST: u64 = 0xffff_e000_0000;
+
+const IPV4_RESERVED: u64 = 0xffff_f000_0000;
+
+const IPV4_BROADCAST: u64 = 0xffff_ffff_ffff;
 
 // The address in the 16 bytes at `at`. A half that s does not hold whole is 0.
 pub fn address_at(s: &[u8], at: usize) -> Address
@@ -35,23 +40,20 @@ pub fn same(a: Address, b: Address) -> bool
     boolean::both(a.high == b.high, a.low == b.low)
 }
 
-// An address that may be announced.
+// An address that may be announced. A high half other than 0 decides alone; among the others an IPv4 address before 224.0.0.0 is found first.
 pub fn is_legal(a: Address) -> bool
     ensures { λ r. ⌜ r ≡ legal a ⌝ }
 {
     let high = a.high;
+    if high != 0 {
+        return high < IPV6_MULTICAST;
+    }
     let low = a.low;
-    let ipv4 = low % POWER_32;
-    let octet = ipv4 / POWER_24;
-    let illegal = boolean::either(
-        boolean::both(224 <= octet, octet <= 239),
-        boolean::either(ipv4 == 0, ipv4 == 4294967295),
-    );
-    !boolean::either(
-        high / POWER_56 == 255,
-        boolean::either(
-            boolean::both(high == 0, low == 0),
-            boolean::both(boolean::both(high == 0, low / POWER_32 == 65535), illegal),
-        ),
-    )
+    if low < IPV4_MULTICAST {
+        if IPV4_UNSPECIFIED < low {
+            return true;
+        }
+        return boolean::both(low != 0, low != IPV4_UNSPECIFIED);
+    }
+    boolean::both(IPV4_RESERVED <= low, low != IPV4_BROADCAST)
 }
