@@ -116,10 +116,7 @@ unfolding calls AllSized Tail Each
 meets = record {
   sent = record {
     accepted = refl;
-    sized = (
-      record { high = omega arith; low = omega arith; lifetime = omega arith; kind = omega arith; traffic = omega arith },
-      (record { high = omega arith; low = omega arith; lifetime = omega arith; kind = omega arith; traffic = omega arith }, tt),
-    );
+    sized = omega arith;
     old = omega arith;
     new = omega arith;
     index = omega arith;

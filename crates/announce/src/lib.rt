@@ -8,6 +8,8 @@ use association::Outcome;
 use locator_set::SET_LIMIT;
 use parameter::SEQ;
 use refusal::Refusal;
+use reply::ACK_SIZE as SEQ_SIZE;
+use reply::ESP_INFO_SIZE;
 ghost use mathlib.Core.Path.{_≡_};
 ghost use Prim.Native.Nat.{ℕ, _≤_, _<_};
 ghost use lib.ListN.{length, take};
@@ -17,11 +19,6 @@ ghost use Rattle.association.specs.Form.{idLimit};
 ghost use Rattle.announcement.specs.Written.{announcementBytes};
 ghost use Rattle.announcement.specs.Announcements as rules;
 ghost use Rattle.announce.specs.Ends.{refusedWith};
-
-// The bytes of the parameters before and after LOCATOR_SET.
-const ESP_INFO_SIZE: usize = 16;
-
-const SEQ_SIZE: usize = 8;
 
 // The answer to a refused call: nothing is written, and the association is as it was handed in.
 fn declined(a: Association, why: Refusal) -> Announcement

@@ -2,9 +2,12 @@
 // announcement, reply, writer, locator_set, locator and parameter.
 use address::Address;
 use announcement::OwnLocator;
+use locator::HEAD_SIZE as ENTRY_HEAD_SIZE;
 use locator::SPI_TYPE;
+use locator::UNIT;
 use locator_set::SET_LIMIT;
 use parameter::LOCATOR_SET;
+use reply::HEAD_SIZE;
 use writer::put_u32;
 use writer::put_u64;
 ghost use Prim.Native.Nat.{ℕ, _+_, _%_, _≤_};
@@ -17,14 +20,7 @@ ghost use Rattle.announcement.specs.Written.{unitsOf, spiBytes, addressBytes, e
 ghost use Rattle.announcement.specs.Entries.{entrySize, setSize};
 ghost use Rattle.announce_writer.specs.Parts.{entryHead, padding};
 
-// The bytes of a parameter's type and length.
-const HEAD_SIZE: usize = 4;
-
-// The bytes of an entry before its SPI and address, the unit that its length counts, and the bytes of its address, with which it ends.
-const ENTRY_HEAD_SIZE: usize = 8;
-
-const UNIT: usize = 4;
-
+// The bytes of an entry's address, with which it ends.
 const ADDRESS_SIZE: usize = 16;
 
 // The length of an entry: the units of its SPI, where there is one, and its address.

@@ -61,7 +61,7 @@ judged : map fit
 unfolding bytesOf sectionBytes recordBytes numbers plain places isEntry areEntries
 judged = refl
 
--- the last numbers that fit, and the next one of each: locator type, traffic type, lifetime, P; and an entry that the list does not have
+-- the last numbers that fit, and the next one of each: locator type, traffic type, lifetime, P; and numbers past the list's two entries
 widths : (map (λ (bytes : List ℕ). isEntry bytes (recordAt bytes 0) 0)
     (announcing (entry 255 255 0xffffffff 1) place
     ∷ announcing (entry 256 0 0 0) place
@@ -70,7 +70,7 @@ widths : (map (λ (bytes : List ℕ). isEntry bytes (recordAt bytes 0) 0)
     ∷ announcing (entry 0 0 0 2) place
     ∷ [])
     ≡ true ∷ false ∷ false ∷ false ∷ false ∷ [])
-    × (map (λ (k : ℕ). isEntry (announcing (plain 2) (places (8 ∷ 9 ∷ []))) (recordAt (announcing (plain 2) (places (8 ∷ 9 ∷ []))) 0) k) (0 ∷ 1 ∷ 2 ∷ [])
+    × (map (λ (k : ℕ). isEntry (announcing (plain 3) (places (8 ∷ 9 ∷ []))) (recordAt (announcing (plain 3) (places (8 ∷ 9 ∷ []))) 0) k) (0 ∷ 1 ∷ 2 ∷ [])
     ≡ true ∷ true ∷ false ∷ [])
 unfolding bytesOf sectionBytes recordBytes numbers plain places isEntry
 widths = (refl, refl)

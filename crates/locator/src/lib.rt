@@ -7,11 +7,11 @@ ghost use lib.ListN.{length};
 ghost use Rattle.locator.specs.Locators.{illForm, spiAt, locatorStepAt};
 
 // The bytes of a locator before its SPI or address, the unit that its length counts, and the least that one takes.
-const HEAD_SIZE: usize = 8;
+pub const HEAD_SIZE: usize = 8;
 
-const UNIT: usize = 4;
+pub const UNIT: usize = 4;
 
-const LEAST_SIZE: usize = 24;
+pub const LEAST_SIZE: usize = 24;
 
 // The locator type that has an SPI.
 pub const SPI_TYPE: u8 = 1;

@@ -2,6 +2,7 @@
 // they are held, and the answers are those of the bytes that would be written. Depends on announcement, locator_set, locator, address and boolean.
 use address::Address;
 use announcement::OwnLocator;
+use locator::LEAST_SIZE as ENTRY_SIZE;
 use locator_set::SET_LIMIT;
 ghost use mathlib.Core.Path.{_≡_};
 ghost use mathlib.Core.Bool.{Bool};
@@ -19,9 +20,7 @@ ghost use Rattle.announcement.specs.Sized.{AllSized};
 ghost use Rattle.announcement.specs.Entries.{illEntry, twiceIn, marksIn};
 ghost use Rattle.own_list.specs.Numbers.{entryOf, Judged};
 
-// The bytes of an entry without an SPI, and of one with it.
-const ENTRY_SIZE: usize = 24;
-
+// The bytes of an entry with an SPI.
 const SPI_ENTRY_SIZE: usize = 28;
 
 // Refusal 17: the list has no entry, or more than a set may have.

@@ -21,11 +21,11 @@ ghost use Rattle.reply.specs.Low.{fourBytes};
 ghost use Rattle.reply_form.specs.Replies.{checkSize, espInfoWith, echoRequestBytes, ackBytes, checkBytes, checksBytes, moveBytes, fitted, overwritten};
 
 // The bytes of a parameter's type and length, and of each parameter that is written; an ACK's size is a SEQ's too.
-const HEAD_SIZE: usize = 4;
+pub const HEAD_SIZE: usize = 4;
 
-const ESP_INFO_SIZE: usize = 16;
+pub const ESP_INFO_SIZE: usize = 16;
 
-const ACK_SIZE: usize = 8;
+pub const ACK_SIZE: usize = 8;
 
 const ECHO_REQUEST_SIZE: usize = 16;
 

@@ -4,6 +4,8 @@ use association::Association;
 use association::PeerId;
 use parameter::ECHO_RESPONSE_SIGNED;
 use refusal::Refusal;
+use reply::ACK_SIZE;
+use reply::HEAD_SIZE;
 use update::MessageAnswer;
 use update::MessageOutcome;
 ghost use mathlib.Core.Path.{_≡_};
@@ -19,11 +21,7 @@ ghost use Rattle.respond.specs.Room.{roomy};
 // The opaque bytes that a Check may have.
 pub const OPAQUE_LIMIT: usize = 64;
 
-// The bytes of a parameter's type and length, of the ACK, and the most that padding takes, with one to spare.
-const HEAD_SIZE: usize = 4;
-
-const ACK_SIZE: usize = 8;
-
+// The most bytes that padding takes, with one to spare.
 const PADDING_ROOM: usize = 8;
 
 // Refusal 22: the opaque bytes are more than 64.

@@ -86,13 +86,7 @@ sent : Sent ours entries 3 0x1002 0x203 112 (header "15") following
 unfolding handled announcementBytes setBody entryBytes parameterBytes bytesOf wiresBytes wireBytes refusal0 clashing clash records some illForm legal twice marks AllSized Tail
 sent = record {
   accepted = refl;
-  sized = (
-    record { high = omega arith; low = omega arith; lifetime = omega arith; kind = omega arith; traffic = omega arith },
-    (
-      record { high = omega arith; low = omega arith; lifetime = omega arith; kind = omega arith; traffic = omega arith },
-      (record { high = omega arith; low = omega arith; lifetime = omega arith; kind = omega arith; traffic = omega arith }, tt),
-    ),
-  );
+  sized = omega arith;
   old = omega arith;
   new = omega arith;
   index = omega arith;

@@ -14,7 +14,7 @@ use Rattle.address.proofs.is_legal.Tie as tie
 abbrev multicast : ℕ
 multicast = 0xff * 2 ^ 56
 
--- a high half other than 0
+-- a high half other than 0; b: below ff00::
 high-judged : (a : Address) (b : Bool) → (a .high ≡ 0 → ⊥) → a .high < 2 ^ 64 → ltb (a .high) multicast ≡ b → b ≡ legal a
 unfolding legal
 high-judged a true some fits p = rw (ne-eqb (a .high) 0 some, ne-eqb (firstByte a) 0xff (omega (arith, ltb-true)))
@@ -39,14 +39,14 @@ unicast-judged low from to = rw (
   ne-eqb (ipv4 (below low)) 0xffffffff (omega arith),
 )
 
--- up to 0.0.0.0
+-- up to 0.0.0.0; z: all zero, u: 0.0.0.0
 least-judged : (low : ℕ) (z u : Bool) → low ≤ mapped 0 → eqb low 0 ≡ z → eqb low (mapped 0) ≡ u → (not z && not u) ≡ legal (below low)
 unfolding legal
 least-judged low true u to p q = rw (eqb-true low 0 p)
 least-judged low false true to p q = rw (eqb-true low (mapped 0) q)
 least-judged low false false to p q = rw (p, ne-eqb (low / 2 ^ 32) 0xffff (omega (arith, eqb-false)))
 
--- from 224.0.0.0: IPv4 addresses, and the addresses past them
+-- from 224.0.0.0, IPv4 addresses and the addresses past them; r: from 240.0.0.0, b: 255.255.255.255, v: an IPv4 address
 greatest-judged :
     (low : ℕ) (r b v : Bool) →
     mapped 0xe0000000 ≤ low →
