@@ -1,4 +1,5 @@
 pub mod Numbers
+pub mod Halves
 pub mod Records
 pub mod Written
 pub mod ExamplesHex
