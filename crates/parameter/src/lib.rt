@@ -51,12 +51,11 @@ pub enum Step {
     Refused(Refusal),
 }
 
-// The bytes that a parameter takes in all whose length L is this.
+// The bytes that a parameter takes in all whose length L is this: its head and L bytes, up to a multiple of 8.
 pub fn taken_by(len: u16) -> usize
     ensures { λ r. ⌜ r ≡ takes len ⌝ }
 {
-    let long = len as usize;
-    11 + long - (long + 3) % 8
+    (len as usize + 11) / 8 * 8
 }
 
 // A type that refusal 4 refuses.
@@ -102,7 +101,7 @@ pub fn step_at(packet: &[u8], at: usize) -> Step
     }
     let kind = octets::u16_at(packet, at);
     let len = octets::u16_at(packet, at + 2);
-    let size = 11 + len - (len + 3) % 8;
+    let size = taken_by(len as u16);
     if left < size {
         return Step::Refused(Refusal::Malformed);
     }
