@@ -1,4 +1,5 @@
 pub mod Answers
 pub mod Formed
+mod Even
 pub mod Turns
 pub mod Within

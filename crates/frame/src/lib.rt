@@ -83,10 +83,13 @@ fn note_type(unknown: usize, kind: usize) -> usize
     }
 }
 
-// What has been seen after one more parameter.
+// What has been seen after one more parameter. Every type that is counted or refused is odd, so an even one is passed at once.
 fn note(seen: Survey, kind: usize, body: usize, len: usize) -> Survey
     ensures { λ r. ⌜ r ≡ noted seen kind body len ⌝ }
 {
+    if kind % 2 == 0 {
+        return seen;
+    }
     let esp = seen.esp;
     let set = seen.set;
     let seq = seen.seq;

@@ -1,6 +1,10 @@
 -- `frame::note` meets its contract, field by field. Assumes nothing.
+use Rattle.frame.proofs.Even.{even-passed}
 use Rattle.frame.proofs.note.Statement.{statement}
 use Rattle.frame.proofs.note.Tie as tie
+
+returns : tie.Need-returns
+returns c = let a = c .before .args in even-passed (a .seen) (a .kind) (a .body) (a .len) (c .if1 .taken)
 
 note-type-requires : tie.Need-note-type-requires
 note-type-requires c κs = tt
@@ -23,8 +27,8 @@ count-requires-5 c κs = tt
 count-requires-6 : tie.Need-count-requires-6
 count-requires-6 c κs = tt
 
-returns : tie.Need-returns
-returns c = λ i. record {
+returns-2 : tie.Need-returns-2
+returns-2 c = λ i. record {
   unknown = c .before .before .before .before .before .before .note-type .ensures i;
   esp = c .before .before .before .before .before .count .ensures i;
   set = c .before .before .before .before .count2 .ensures i;
@@ -38,6 +42,7 @@ pub note-spec : {M : Type 1} → statement M
 note-spec =
     tie.close
     (tie.spec
+    returns
     note-type-requires
     count-requires
     count-requires-2
@@ -45,4 +50,4 @@ note-spec =
     count-requires-4
     count-requires-5
     count-requires-6
-    returns)
+    returns-2)
