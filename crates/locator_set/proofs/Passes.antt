@@ -22,9 +22,9 @@ use Rattle.locator.specs.declared.LocatorStep.{LocatorStep}
 use Rattle.locator.specs.declared.LocatorStep.the-variants.{Listed, Refused}
 use Rattle.locator.specs.Locators.{places, preferredAt, listedAddress, nextLocator, illegalAt, listedAt, locatorStepAt}
 use Rattle.locator_set.specs.Sets.{setLimit, twice, mark, marks, blanks, listedOf, padded, refusedSet, setOf}
-use Rattle.locator_set.specs.Arrays.{addresses}
+use Rattle.locator_set.specs.Arrays.{addresses, bucketCount, bucketOf, unused}
 use Rattle.locator.proofs.Entries.{lies-within, is-listed, is-refused}
-use Rattle.locator_set.proofs.Earlier.{addresses-store}
+use Rattle.locator_set.proofs.Earlier.{addresses-store, used-more}
 
 -- refusal 6 by the locators at the places `ats`, after `count` others that have the addresses `before` and `marked` times P
 unfoldable pub unfit : List ℕ → (count : ℕ) → List Address → (marked : ℕ) → List ℕ → Bool
@@ -36,6 +36,16 @@ unfoldable pub judged : List ℕ → (count : ℕ) → List Address → (marked 
 judged s count before marked listed ats =
     cond (unfit s count before marked ats) refusedSet
     (record { verdict = Holds (count + length ats); listed = sets listed count (map (listedAt s) ats) })
+
+pub mark-few : (b : Bool) → mark b ≤ 1
+mark-few true = omega arith
+mark-few false = omega arith
+
+-- no P is taken back
+marks-grow : (s : List ℕ) (before : ℕ) (ats : List ℕ) → before ≤ marks s before ats
+unfolding marks
+marks-grow s before [] = omega arith
+marks-grow s before (at ∷ ats) = omega (arith, marks-grow s (before + mark (preferredAt s at)) ats)
 
 module _ (s : List ℕ) (count : ℕ) (before : List Address) (marked : ℕ) (listed : List ListedLocator) (at : ℕ) (ats : List ℕ) where
   judged-many : 8 ≤ count → judged s count before marked listed (at ∷ ats) ≡ refusedSet
@@ -57,6 +67,10 @@ module _ (s : List ℕ) (count : ℕ) (before : List Address) (marked : ℕ) (li
   judged-on h g =
       let e : count + suc (length ats) ≡ suc count + length ats = omega arith in
       simp (h, g, add-one count, e)
+
+  judged-marked : 1 < marked → judged s count before marked listed ats ≡ refusedSet
+  unfolding judged unfit
+  judged-marked h = simp (lt-ltb 1 (marks s marked ats) (omega (arith, marks-grow s marked ats)), or-true)
 
   judged-end : count ≤ 8 → judged s count before marked listed [] ≡ cond (ltb 1 marked) refusedSet (record { verdict = Holds (count + 0); listed = listed })
   unfolding judged unfit some twice marks
@@ -90,12 +104,14 @@ from-start s h = rw (ne-eqb _ _ h, unfit-start s) (go (unfitSet s) refl)
         rw (same, stored (listedOf s) (rw (length-map (places s) (listedAt s)) few))
 
 -- what holds at the loop's head: the locators from `at` on, after those that were read, give the set's answer
-pub record Passing (s : List ℕ) (listed : List ListedLocator) (highs lows : List ℕ) (count marked at : ℕ) : Type 0 where
+pub record Passing (s : List ℕ) (listed : List ListedLocator) (highs lows : List ℕ) (used : List Bool) (count marked at : ℕ) : Type 0 where
   pub few : count ≤ 8
-  pub few-marks : marked ≤ count
+  pub few-marks : marked ≤ 1
   pub listed-long : length listed ≡ 8
   pub highs-long : length highs ≡ 8
   pub lows-long : length lows ≡ 8
+  pub used-long : length used ≡ bucketCount
+  pub all-used : some (unused used) (addresses count highs lows) ≡ false
   pub steps : ℕ
   pub enough : length s - at ≤ steps
   pub agrees : judged s count (addresses count highs lows) marked listed (records (λ (at : ℕ). at) (nextLocator s) (length s) steps at) ≡ setOf s
@@ -104,35 +120,31 @@ pub set-empty : (s : List ℕ) → length s ≡ 0 → refusedSet ≡ setOf s
 unfolding setOf
 set-empty s h = rw (eq-eqb _ _ h)
 
-pub set-starts : (s highs lows : List ℕ) → length highs ≡ 8 → length lows ≡ 8 → (length s ≡ 0 → ⊥) → Passing s blanks highs lows 0 0 0
-unfolding addresses
-set-starts s highs lows a b h = record {
+pub set-starts : (s highs lows : List ℕ) (used : List Bool) → length highs ≡ 8 → length lows ≡ 8 → length used ≡ bucketCount → (length s ≡ 0 → ⊥)
+    → Passing s blanks highs lows used 0 0 0
+unfolding addresses some
+set-starts s highs lows used a b u h = record {
   few = omega arith;
   few-marks = omega arith;
   listed-long = refl;
   highs-long = a;
   lows-long = b;
+  used-long = u;
+  all-used = refl;
   steps = length s;
   enough = omega arith;
   agrees = from-start s h;
 }
 
-pub mark-few : (b : Bool) → mark b ≤ 1
-mark-few true = omega arith
-mark-few false = omega arith
-
-module _ (s : List ℕ) (listed : List ListedLocator) (highs lows : List ℕ) (count marked at : ℕ) (w : Passing s listed highs lows count marked at) where
+module _ (s : List ℕ) (listed : List ListedLocator) (highs lows : List ℕ) (used : List Bool) (count marked at : ℕ) (w : Passing s listed highs lows used count marked at) where
   ended : length s ≤ at → cond (ltb 1 marked) refusedSet (record { verdict = Holds count; listed = listed }) ≡ setOf s
   ended h =
       let e : count + 0 ≡ count = omega arith in
       rw e at (sym (judged-end s count (addresses count highs lows) marked listed 0 [] (w .few)))
       ∙ (ap (judged s count (addresses count highs lows) marked listed) (sym (records-none (λ (at : ℕ). at) (nextLocator s) (length s) (w .steps) at h)) ∙ w .agrees)
 
-  pub set-marked : length s ≤ at → 1 < marked → refusedSet ≡ setOf s
-  set-marked h m = rw (lt-ltb _ _ m) at (ended h)
-
-  pub set-ends : length s ≤ at → marked ≤ 1 → record { verdict = Holds count; listed = listed } ≡ setOf s
-  set-ends h m = rw (le-ltb _ _ m) at (ended h)
+  pub set-ends : length s ≤ at → record { verdict = Holds count; listed = listed } ≡ setOf s
+  set-ends h = rw (le-ltb _ _ (w .few-marks)) at (ended h)
 
   front : at < length s → judged s count (addresses count highs lows) marked listed (at ∷ records (λ (at : ℕ). at) (nextLocator s) (length s) (w .steps - 1) (nextLocator s at)) ≡ setOf s
   front h = ap (judged s count (addresses count highs lows) marked listed) (sym (records-more (λ (at : ℕ). at) (nextLocator s) (length s) (w .steps) at h (w .enough))) ∙ w .agrees
@@ -157,22 +169,41 @@ module _ (s : List ℕ) (listed : List ListedLocator) (highs lows : List ℕ) (c
       pub set-nearer : {l : ListedLocator} {n : ℕ} → r ≡ Listed l n → (n ≤ length s) × (at < n)
       set-nearer e = rw (got e .1 .1) (lies-within s at (got e .0))
 
-      goes-at : illegalAt s at ≡ false → (count ≡ 8 → ⊥) → some (sameAddress (listedAddress s at)) (addresses count highs lows) ≡ false
-          → Passing s (set listed count (listedAt s at)) (set highs count (listedAddress s at .high)) (set lows count (listedAddress s at .low))
-          (count + 1) (marked + mark (preferredAt s at)) (nextLocator s at)
-      goes-at b full m = record {
-        few = omega (arith, w .few);
-        few-marks = omega (arith, w .few-marks, mark-few (preferredAt s at));
-        listed-long = length-set listed count (listedAt s at) ∙ w .listed-long;
-        highs-long = length-set highs count (listedAddress s at .high) ∙ w .highs-long;
-        lows-long = length-set lows count (listedAddress s at .low) ∙ w .lows-long;
-        steps = w .steps - 1;
-        enough = omega (arith, w .enough, lies-within s at b);
-        agrees =
-            rw (addresses-store count highs lows (listedAddress s at) (omega (arith, w .few, w .highs-long)) (omega (arith, w .few, w .lows-long)))
-            (sym (judged-on s count (addresses count highs lows) marked listed at _ b m) ∙ front h);
-      }
+      -- the locators after the one at `at`
+      further : illegalAt s at ≡ false → some (sameAddress (listedAddress s at)) (addresses count highs lows) ≡ false
+          → judged s (count + 1) (listedAddress s at ∷ addresses count highs lows) (marked + mark (preferredAt s at)) (set listed count (listedAt s at))
+          (records (λ (at : ℕ). at) (nextLocator s) (length s) (w .steps - 1) (nextLocator s at)) ≡ setOf s
+      further b m = sym (judged-on s count (addresses count highs lows) marked listed at _ b m) ∙ front h
 
-      pub set-goes : {l : ListedLocator} {n : ℕ} → r ≡ Listed l n → (count ≡ 8 → ⊥) → some (sameAddress (l .address)) (addresses count highs lows) ≡ false
-          → Passing s (set listed count l) (set highs count (l .address .high)) (set lows count (l .address .low)) (count + 1) (marked + mark (l .preferred)) n
-      set-goes e full m = rw (got e .1 .0, got e .1 .1) (goes-at (got e .0) full (rw (got e .1 .0) at m))
+      marked-at : illegalAt s at ≡ false → some (sameAddress (listedAddress s at)) (addresses count highs lows) ≡ false
+          → 1 < marked + mark (preferredAt s at) → refusedSet ≡ setOf s
+      marked-at b m p =
+          sym (judged-marked s (count + 1) (listedAddress s at ∷ addresses count highs lows) (marked + mark (preferredAt s at)) (set listed count (listedAt s at)) at _ p) ∙ further b m
+
+      pub set-marked : {l : ListedLocator} {n : ℕ} → r ≡ Listed l n → some (sameAddress (l .address)) (addresses count highs lows) ≡ false
+          → 1 < marked + mark (l .preferred) → refusedSet ≡ setOf s
+      set-marked e m p = marked-at (got e .0) (rw (got e .1 .0) at m) (rw (got e .1 .0) at p)
+
+      goes-at : illegalAt s at ≡ false → (count ≡ 8 → ⊥) → some (sameAddress (listedAddress s at)) (addresses count highs lows) ≡ false
+          → marked + mark (preferredAt s at) ≤ 1
+          → Passing s (set listed count (listedAt s at)) (set highs count (listedAddress s at .high)) (set lows count (listedAddress s at .low))
+          (set used (bucketOf (listedAddress s at)) true) (count + 1) (marked + mark (preferredAt s at)) (nextLocator s at)
+      goes-at b full m p =
+          let stored = addresses-store count highs lows (listedAddress s at) (omega (arith, w .few, w .highs-long)) (omega (arith, w .few, w .lows-long)) in
+          record {
+            few = omega (arith, w .few);
+            few-marks = p;
+            listed-long = length-set listed count (listedAt s at) ∙ w .listed-long;
+            highs-long = length-set highs count (listedAddress s at .high) ∙ w .highs-long;
+            lows-long = length-set lows count (listedAddress s at .low) ∙ w .lows-long;
+            used-long = length-set used (bucketOf (listedAddress s at)) true ∙ w .used-long;
+            all-used = rw stored (used-more used (listedAddress s at) (addresses count highs lows) (omega (arith, w .used-long)) (w .all-used));
+            steps = w .steps - 1;
+            enough = omega (arith, w .enough, lies-within s at b);
+            agrees = rw stored (further b m);
+          }
+
+      pub set-goes : {l : ListedLocator} {n k : ℕ} → r ≡ Listed l n → (count ≡ 8 → ⊥) → some (sameAddress (l .address)) (addresses count highs lows) ≡ false
+          → marked + mark (l .preferred) ≤ 1 → k ≡ bucketOf (l .address)
+          → Passing s (set listed count l) (set highs count (l .address .high)) (set lows count (l .address .low)) (set used k true) (count + 1) (marked + mark (l .preferred)) n
+      set-goes e full m p k = rw (k, got e .1 .0, got e .1 .1) (goes-at (got e .0) full (rw (got e .1 .0) at m) (rw (got e .1 .0) at p))

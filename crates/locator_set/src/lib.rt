@@ -4,14 +4,18 @@ use locator::ListedLocator;
 use locator::LocatorStep;
 use refusal::Refusal;
 ghost use mathlib.Core.Path.{_≡_};
-ghost use Prim.Native.Nat.{_≤_};
+ghost use mathlib.Core.Bool.{false};
+ghost use Prim.Native.Nat.{_≤_, _<_};
 ghost use Rattle.octets.specs.Records.{some};
 ghost use Rattle.address.specs.Rules.{sameAddress};
 ghost use Rattle.locator_set.specs.Sets.{setLimit, mark, blanks, refusedSet, setOf};
-ghost use Rattle.locator_set.specs.Arrays.{addresses};
+ghost use Rattle.locator_set.specs.Arrays.{addresses, bucketCount, bucketOf, unused};
 
 // The locators that a set may have.
 pub const SET_LIMIT: usize = 8;
+
+// The buckets that addresses fall into: so many that eight addresses seldom share one, and so few that they are soon cleared.
+const BUCKET_COUNT: usize = 64;
 
 // Refusal 6, or how many locators a set holds.
 pub enum SetVerdict {
@@ -42,6 +46,32 @@ fn held(highs: &[u64; SET_LIMIT], lows: &[u64; SET_LIMIT], count: usize, address
         }
     }
     false
+}
+
+// The bucket that an address falls into. Addresses in different ones differ.
+fn bucket_of(address: Address) -> usize
+    ensures { λ r. ⌜ (r ≡ bucketOf address) × (r < bucketCount) ⌝ }
+{
+    let buckets = BUCKET_COUNT as u64;
+    ((address.high % buckets + address.low % buckets) % buckets) as usize
+}
+
+// The address is among them. Their buckets are used, so one whose bucket is not used is none of them and is compared with none.
+fn is_twice(
+    used: &[bool; BUCKET_COUNT],
+    highs: &[u64; SET_LIMIT],
+    lows: &[u64; SET_LIMIT],
+    count: usize,
+    address: Address,
+) -> bool
+    requires { ⌜ count ≤ setLimit ⌝ }
+    requires { ⌜ some (unused (now used)) (addresses count (now highs) (now lows)) ≡ false ⌝ }
+    ensures { λ r. ⌜ r ≡ some (sameAddress address) (addresses count (now (highs .entry)) (now (lows .entry))) ⌝ }
+{
+    if !used[bucket_of(address)] {
+        return false;
+    }
+    held(highs, lows, count, address)
 }
 
 // A locator with P counts 1.
@@ -88,6 +118,7 @@ pub fn read_set(s: &[u8]) -> LocatorSet
     let mut listed = no_locators();
     let mut highs = [0u64; SET_LIMIT];
     let mut lows = [0u64; SET_LIMIT];
+    let mut used = [false; BUCKET_COUNT];
     let mut count: usize = 0;
     let mut marked: usize = 0;
     let mut at: usize = 0;
@@ -100,18 +131,19 @@ pub fn read_set(s: &[u8]) -> LocatorSet
             return refuse_set();
         };
         let address = locator.address;
-        if held(&highs, &lows, count, address) {
+        if is_twice(&used, &highs, &lows, count, address) {
             return refuse_set();
         }
+        marked += mark_of(locator.preferred);
+        if 1 < marked {
+            return refuse_set();
+        }
+        used[bucket_of(address)] = true;
         listed[count] = locator;
         highs[count] = address.high;
         lows[count] = address.low;
         count += 1;
-        marked += mark_of(locator.preferred);
         at = next;
-    }
-    if 1 < marked {
-        return refuse_set();
     }
     LocatorSet {
         verdict: SetVerdict::Holds(count),
