@@ -16,7 +16,7 @@ use Rattle.locator_set.specs.declared.LocatorSet.{LocatorSet}
 use Rattle.locator_set.specs.declared.SetVerdict.the-variants.{RefusedSet, Holds}
 use Rattle.locator.specs.Locators.{places}
 use Rattle.locator_set.specs.Sets.{listedOf, padded, refusal6, refusedSet, setOf}
-use Rattle.packet.specs.declared.Message.the-variants.{Move}
+use Rattle.packet.specs.declared.Message.the-variants.{Refused, Move}
 use Rattle.packet.specs.Kinds.{isMove, isReply, isCheck}
 use Rattle.packet.specs.Readings.{fieldsOf, setBytes, refusing, refused, moveOf, replyOf, checkOf, kindOf, readingOf}
 use Rattle.packet.specs.Parts.{Parts}
@@ -34,12 +34,12 @@ set-holds true n ls e = (cc, cc)
 set-holds false n ls e = (refl, cc)
 
 module _ (s : List ℕ) (seen : Survey) {set : LocatorSet} (g : set ≡ setOf (setBytes s seen)) where
-  pub move-refused : {r : Refusal} → set .verdict ≡ RefusedSet r → refusing r ≡ moveOf s seen
+  pub move-refused : {r : Refusal} → set .verdict ≡ RefusedSet r → record { message = Refused r; listed = set .listed } ≡ moveOf s seen
   unfolding setOf
   move-refused e =
       let bytes = setBytes s seen in
       let q = set-refused (refusal6 bytes) (length (places bytes)) (padded (listedOf bytes)) (sym (ap (λ (x : LocatorSet). x .verdict) g) ∙ e) in
-      rw (q .1, q .0)
+      rw (q .1, ap (λ (x : LocatorSet). x .listed) g, q .0)
 
   pub move-listed : {count : ℕ} → set .verdict ≡ Holds count
       → record { message = Move (fieldsOf s seen count); listed = set .listed } ≡ moveOf s seen

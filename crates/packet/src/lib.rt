@@ -106,17 +106,15 @@ fn read_move(packet: &[u8], seen: Survey) -> Reading
     let end = start + set.len;
     let read = locator_set::read_set(&packet[start..end]);
     let verdict = read.verdict;
-    match verdict {
-        SetVerdict::RefusedSet(refusal) => refuse(refusal),
+    let listed = read.listed;
+    let message = match verdict {
+        SetVerdict::RefusedSet(refusal) => Message::Refused(refusal),
         SetVerdict::Holds(count) => {
-            let listed = read.listed;
             let fields = fields_of(packet, seen, count);
-            Reading {
-                message: Message::Move(fields),
-                listed,
-            }
+            Message::Move(fields)
         }
-    }
+    };
+    Reading { message, listed }
 }
 
 // The parameters are those of a Move.

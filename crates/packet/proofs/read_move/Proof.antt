@@ -29,9 +29,6 @@ read-set-requires c κs = search needs
 enum-known-verdict : tie.Need-enum-known-verdict
 enum-known-verdict c = search needs
 
-refuse-requires : tie.Need-refuse-requires
-refuse-requires c κs = search needs
-
 enum-known-verdict-2 : tie.Need-enum-known-verdict-2
 enum-known-verdict-2 c = search needs
 
@@ -43,7 +40,7 @@ returns c =
     let a = c .before .before .before .before .before .before .before .before .before .args in
     let long : a .seen .set .body + a .seen .set .len - a .seen .set .body ≡ a .seen .set .len = omega arith in
     let set = c .before .before .before .before .read-set .ensures ∙ ap (λ (k : ℕ). setOf (take k (drop (a .seen .set .body) (a .packet .now)))) long in
-    c .refuse .ensures ∙ move-refused (a .packet .now) (a .seen) set (c .before .before .verdict .given .1)
+    move-refused (a .packet .now) (a .seen) set (c .before .verdict .given .1)
 
 returns-2 : tie.Need-returns-2
 returns-2 c =
@@ -51,7 +48,7 @@ returns-2 c =
     let long : a .seen .set .body + a .seen .set .len - a .seen .set .body ≡ a .seen .set .len = omega arith in
     let set = c .before .before .before .before .before .read-set .ensures ∙ ap (λ (k : ℕ). setOf (take k (drop (a .seen .set .body) (a .packet .now)))) long in
     ap (λ (f : MoveFields). record { message = Move f; listed = c .before .before .before .before .before .read-set .result .listed }) (c .fields-of .ensures)
-    ∙ move-listed (a .packet .now) (a .seen) set (c .before .before .before .verdict2 .given .1)
+    ∙ move-listed (a .packet .now) (a .seen) set (c .before .before .verdict2 .given .1)
 
 pub read-move-spec : {M : Type 1} → statement M
 read-move-spec =
@@ -63,7 +60,6 @@ read-move-spec =
     part-read-set-end
     read-set-requires
     enum-known-verdict
-    refuse-requires
     enum-known-verdict-2
     fields-of-requires
     returns
