@@ -1,6 +1,6 @@
 -- What the definitions say of a slot whose holding is known. Assumes nothing.
 use mathlib.Core.Path.{_≡_, sym, ap, _∙_}
-use mathlib.Core.Bool.{Bool, false, _||_}
+use mathlib.Core.Bool.{Bool, true, false}
 use Prim.Native.Nat.{ℕ, _≤_, _<_}
 use lib.Dec.{eqb}
 use borrow.Author.Tests.{le-leb, lt-leb}
@@ -27,10 +27,15 @@ pub clash-to-empty : (x y : Slot) (l : Locator) → x .holding ≡ Held l → y 
 unfolding clash
 clash-to-empty x y l p q = simp (p, q)
 
-pub clash-held : (x y : Slot) (l m : Locator) (a b r : Bool) → x .holding ≡ Held l → y .holding ≡ Held m →
-    a ≡ sameAddress (l .address) (m .address) → b ≡ sameNonce (l .status) (m .status) → r ≡ (a || b) → r ≡ clash x y
+pub clash-address : (x y : Slot) (l m : Locator) (a : Bool) → x .holding ≡ Held l → y .holding ≡ Held m →
+    a ≡ sameAddress (l .address) (m .address) → a ≡ true → true ≡ clash x y
 unfolding clash
-clash-held x y l m a b r p q u v w = rw (w, u, v, p, q)
+clash-address x y l m a p q u t = rw (p, q, ← u, t)
+
+pub clash-nonce : (x y : Slot) (l m : Locator) (a b : Bool) → x .holding ≡ Held l → y .holding ≡ Held m →
+    a ≡ sameAddress (l .address) (m .address) → a ≡ false → b ≡ sameNonce (l .status) (m .status) → b ≡ clash x y
+unfolding clash
+clash-nonce x y l m a b p q u f v = rw (p, q, ← u, f, ← v)
 
 pub nonce-held : (nonce : ℕ) (s : Slot) (l : Locator) (k : Check) → s .holding ≡ Held l → l .status ≡ Unverified k →
     eqb nonce (k .nonce) ≡ heldAs (isNonce nonce) s

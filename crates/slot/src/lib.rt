@@ -110,7 +110,10 @@ pub fn clashes(x: Slot, y: Slot) -> bool
                 let b = m.address;
                 let s = l.status;
                 let t = m.status;
-                boolean::either(address::same(a, b), same_nonce(s, t))
+                if address::same(a, b) {
+                    return true;
+                }
+                same_nonce(s, t)
             }
         },
     }

@@ -1,14 +1,15 @@
 -- Loops over a list: one that leaves at the first element that passes a test, and one that maps every element in its place. Assumes nothing.
 use Prim.Native.Nat.{ℕ, zero, suc, _+_, _≤_, _<_}
-use mathlib.Core.Path.{_≡_, refl, ap, _∙_}
+use mathlib.Core.Path.{_≡_, refl, sym, ap, _∙_}
 use mathlib.Core.Bool.{Bool, true, false, cond, _||_}
 use mathlib.Core.List.{List, [], _∷_, map}
 use lib.ListN.{length, getD, set, drop, drop-of-length-le}
-use lib.Seq.{drop-cons}
+use lib.Seq.{drop-cons, set-getD}
 use native.Mathlib.Numerals.{add-one}
 use native.Mathlib.Omega.{arith}
 use Rattle.octets.specs.Records.{some}
 use Rattle.slot.specs.Clashes.{clash}
+use Rattle.slot.specs.declared.Slot.{Slot}
 use Rattle.slots.specs.Rules.{clashing}
 
 -- A loop with an early return. What it works out is `over`, a function of an index and the list from there on: `found` of the first index where
@@ -41,10 +42,40 @@ pub some-loop : {A : Type 0} (test : A → Bool) → Loop (λ n xs. some test xs
 unfolding some
 some-loop test = loop (λ n xs. some test xs) (λ x xs. test x) (λ n. true) false (λ n. refl) (λ n x xs. or-cond (test x) (some test xs))
 
--- whether a slot clashes with one after it
-pub clash-loop : Loop (λ n xs. clashing xs) (λ x xs. some (clash x) xs) (λ n. true) false
+-- whether some element passes a test, or what else decides
+or-cond-or : (a b rest : Bool) → ((a || b) || rest) ≡ cond a true (b || rest)
+or-cond-or true b rest = refl
+or-cond-or false b rest = refl
+
+some-or-loop : {A : Type 0} (test : A → Bool) (rest : Bool) → Loop (λ n xs. some test xs || rest) (λ x xs. test x) (λ n. true) rest
+unfolding some
+some-or-loop test rest = loop (λ n xs. some test xs || rest) (λ x xs. test x) (λ n. true) rest (λ n. refl) (λ n x xs. or-cond-or (test x) (some test xs) rest)
+
+-- Whether a slot clashes with one after it. The turn at i asks it of slot i and each one after it, and then of the slots after i
+clash-cons : (x : Slot) (xs : List Slot) → clashing (x ∷ xs) ≡ (some (clash x) xs || clashing xs)
 unfolding clashing
-clash-loop = loop (λ n xs. clashing xs) (λ x xs. some (clash x) xs) (λ n. true) false (λ n. refl) (λ n x xs. or-cond (some (clash x) xs) (clashing xs))
+clash-cons x xs = refl
+
+pub clash-turn : (xs : List Slot) (n i : ℕ) (d : Slot) (whole : Bool) → length xs ≡ n → i < n → whole ≡ clashing (drop i xs) →
+    whole ≡ (some (clash (getD xs i d)) (drop (i + 1) xs) || clashing (drop (i + 1) xs))
+clash-turn xs n i d whole e h p = p ∙ rw (drop-cons xs i d (omega arith), clash-cons, ← add-one i)
+
+pub clash-end : (xs : List Slot) (n i : ℕ) (whole : Bool) → length xs ≡ n → n ≤ i → whole ≡ clashing (drop i xs) → false ≡ whole
+unfolding clashing
+clash-end xs n i whole e h p = rw (p, drop-of-length-le xs {i = i} (omega arith))
+
+module _ (xs : List Slot) (n j : ℕ) (x d : Slot) (whole rest b : Bool) (e : length xs ≡ n) (p : whole ≡ (some (clash x) (drop j xs) || rest)) where
+  -- slot j clashes with x
+  pub clash-hit : j < n → b ≡ clash x (getD xs j d) → b ≡ true → true ≡ whole
+  clash-hit h q r = some-or-loop (clash x) rest .hit xs n j d whole b e h p q r
+
+  -- it does not
+  pub clash-miss : j < n → b ≡ clash x (getD xs j d) → b ≡ false → whole ≡ (some (clash x) (drop (j + 1) xs) || rest)
+  clash-miss h q r = some-or-loop (clash x) rest .miss xs n j d whole b e h p q r
+
+-- none is left that could clash with x
+pub clash-past : (xs : List Slot) (n j : ℕ) (x : Slot) (whole rest : Bool) → length xs ≡ n → n ≤ j → whole ≡ (some (clash x) (drop j xs) || rest) → whole ≡ rest
+clash-past xs n j x whole rest e h p = sym (some-or-loop (clash x) rest .end xs n j whole e h p)
 
 module _ {A : Type 0} (f : A → A) where
   -- the first n elements by f, the others as they are
@@ -74,6 +105,10 @@ module _ {A : Type 0} (f : A → A) where
 
   pub mapped-more : {n : ℕ} {xs s : List A} {y : A} (d : A) → Mapped n xs s → y ≡ f (getD s n d) → Mapped (n + 1) xs (set s n y)
   mapped-more {n} {xs} d p q = record { is = rw (q, p .is, add-one n) (mapFirst-more n xs d) }
+
+  -- an element that f leaves as it is need not be stored
+  pub mapped-kept : {n : ℕ} {xs s : List A} (d : A) → Mapped n xs s → getD s n d ≡ f (getD s n d) → Mapped (n + 1) xs s
+  mapped-kept {n} {xs} {s} d p q = rw (set-getD s n d) at (mapped-more d p q)
 
   pub mapped-all : {n : ℕ} {xs s : List A} → Mapped n xs s → length xs ≤ n → s ≡ map f xs
   mapped-all {n} {xs} p h = p .is ∙ mapFirst-all n xs h

@@ -1,5 +1,6 @@
 // The slots of an association, all of them: whether two clash, their expiry, and which nonces are outstanding. Depends on slot.
 // The functions take the slots and not the association, so that they serve an association with several sets of slots.
+use slot::Holding;
 use slot::SLOT_COUNT;
 use slot::Slot;
 ghost use mathlib.Core.Path.{_≡_};
@@ -7,24 +8,9 @@ ghost use lib.ListN.{drop};
 ghost use Rattle.octets.specs.Records.{some};
 ghost use Rattle.slot.specs.Clashes.{clash};
 ghost use Rattle.slots.specs.Rules.{clashing, expireAll, isOutstanding};
+ghost use Rattle.slots.specs.Past.{past};
 
-// The slot clashes with one of those from `start` on.
-fn clashes_from(slots: [Slot; SLOT_COUNT], slot: Slot, start: usize) -> bool
-    ensures { λ r. ⌜ r ≡ some (clash slot) (drop start slots) ⌝ }
-{
-    let held = slots;
-    let mut j = start;
-    while j < SLOT_COUNT {
-        let other = held[j];
-        if slot::clashes(slot, other) {
-            return true;
-        }
-        j += 1;
-    }
-    false
-}
-
-// Two slots clash.
+// Two slots clash: one with one after it.
 pub fn any_clash(slots: [Slot; SLOT_COUNT]) -> bool
     ensures { λ r. ⌜ r ≡ clashing slots ⌝ }
 {
@@ -32,15 +18,31 @@ pub fn any_clash(slots: [Slot; SLOT_COUNT]) -> bool
     let mut i: usize = 0;
     while i < SLOT_COUNT {
         let slot = held[i];
-        if clashes_from(held, slot, i + 1) {
-            return true;
+        let mut j = i + 1;
+        while j < SLOT_COUNT {
+            let other = held[j];
+            if slot::clashes(slot, other) {
+                return true;
+            }
+            j += 1;
         }
         i += 1;
     }
     false
 }
 
-// The slots at a time: locators at or past their expiry are DEPRECATED.
+// The slot holds a locator at or past its expiry.
+fn is_past(slot: Slot, time: u64) -> bool
+    ensures { λ r. ⌜ r ≡ past time slot ⌝ }
+{
+    let holding = slot.holding;
+    match holding {
+        Holding::Empty => false,
+        Holding::Held(l) => l.expiry <= time,
+    }
+}
+
+// The slots at a time: locators at or past their expiry are DEPRECATED. The other slots are not written.
 pub fn expire_all(slots: [Slot; SLOT_COUNT], time: u64) -> [Slot; SLOT_COUNT]
     ensures { λ r. ⌜ r ≡ expireAll time slots ⌝ }
 {
@@ -48,8 +50,12 @@ pub fn expire_all(slots: [Slot; SLOT_COUNT], time: u64) -> [Slot; SLOT_COUNT]
     let mut i: usize = 0;
     while i < SLOT_COUNT {
         let slot = held[i];
-        held[i] = slot::expire(slot, time);
-        i += 1;
+        if is_past(slot, time) {
+            held[i] = slot::expire(slot, time);
+            i += 1;
+        } else {
+            i += 1;
+        }
     }
     held
 }

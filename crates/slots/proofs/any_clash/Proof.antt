@@ -1,12 +1,22 @@
--- `slots::any_clash` meets its contract. The loop: the slots from i on decide. Assumes nothing.
-use Prim.Native.Nat.{_-_}
+-- `slots::any_clash` meets its contract. The outer loop: the slots from i on decide. The inner one: those from j on, as far as slot i is asked, or else the
+-- slots after i. Assumes nothing.
+use Prim.Native.Nat.{_+_, _-_}
 use mathlib.Core.Path.{_≡_, refl}
+use mathlib.Core.Bool.{_||_}
 use native.Mathlib.Omega.{arith}
 use lib.ListN.{drop}
+use Rattle.octets.specs.Records.{some}
+use Rattle.slot.specs.Clashes.{clash}
 use Rattle.slots.specs.Rules.{clashing}
-use Rattle.slots.proofs.Loops.{clash-loop}
+use Rattle.slots.proofs.Loops.{clash-turn, clash-end, clash-hit, clash-miss, clash-past}
 use Rattle.slots.proofs.any_clash.Statement.{statement}
 use Rattle.slots.proofs.any_clash.Tie as tie
+
+abbrev Inv-loop2 : tie.InvT-loop2
+Inv-loop2 held i slot j₀ j = clashing held ≡ (some (clash slot) (drop j held) || clashing (drop (i + 1) held))
+
+abbrev μ-loop2 : tie.MeasureT-loop2
+μ-loop2 held i slot j₀ j = 8 - j
 
 abbrev Inv-loop : tie.InvT-loop
 Inv-loop held i₀ i = clashing held ≡ clashing (drop i held)
@@ -14,48 +24,74 @@ Inv-loop held i₀ i = clashing held ≡ clashing (drop i held)
 abbrev μ-loop : tie.MeasureT-loop
 μ-loop held i₀ i = 8 - i
 
-loop-holds : tie.Need-loop-holds Inv-loop μ-loop
+loop-holds : tie.Need-loop-holds Inv-loop2 μ-loop2 Inv-loop μ-loop
 loop-holds c = refl
 
-mul-slot : tie.Need-mul-slot Inv-loop μ-loop
+mul-slot : tie.Need-mul-slot Inv-loop2 μ-loop2 Inv-loop μ-loop
 mul-slot c = omega arith
 
-array-copy-out-slot : tie.Need-array-copy-out-slot Inv-loop μ-loop
+array-copy-out-slot : tie.Need-array-copy-out-slot Inv-loop2 μ-loop2 Inv-loop μ-loop
 array-copy-out-slot c = omega arith
 
-add-clashes-from : tie.Need-add-clashes-from Inv-loop μ-loop
-add-clashes-from c = omega arith
+add-j : tie.Need-add-j Inv-loop2 μ-loop2 Inv-loop μ-loop
+add-j c = omega arith
 
-clashes-from-requires : tie.Need-clashes-from-requires Inv-loop μ-loop
-clashes-from-requires c κs = tt
+loop2-holds : tie.Need-loop2-holds Inv-loop2 μ-loop2 Inv-loop μ-loop
+loop2-holds c = search clash-turn
 
-returns : tie.Need-returns Inv-loop μ-loop
-returns c = search (clash-loop .hit)
+mul-other : tie.Need-mul-other Inv-loop2 μ-loop2 Inv-loop μ-loop
+mul-other c = omega arith
 
-add-i : tie.Need-add-i Inv-loop μ-loop
+array-copy-out-other : tie.Need-array-copy-out-other Inv-loop2 μ-loop2 Inv-loop μ-loop
+array-copy-out-other c = omega arith
+
+clashes-requires : tie.Need-clashes-requires Inv-loop2 μ-loop2 Inv-loop μ-loop
+clashes-requires c κs = tt
+
+returns : tie.Need-returns Inv-loop2 μ-loop2 Inv-loop μ-loop
+returns c = search clash-hit
+
+add-j-2 : tie.Need-add-j-2 Inv-loop2 μ-loop2 Inv-loop μ-loop
+add-j-2 c = omega arith
+
+loop2-less : tie.Need-loop2-less Inv-loop2 μ-loop2 Inv-loop μ-loop
+loop2-less c = omega arith
+
+loop2-again : tie.Need-loop2-again Inv-loop2 μ-loop2 Inv-loop μ-loop
+loop2-again c = search clash-miss
+
+add-i : tie.Need-add-i Inv-loop2 μ-loop2 Inv-loop μ-loop
 add-i c = omega arith
 
-loop-less : tie.Need-loop-less Inv-loop μ-loop
+loop-less : tie.Need-loop-less Inv-loop2 μ-loop2 Inv-loop μ-loop
 loop-less c = omega arith
 
-loop-again : tie.Need-loop-again Inv-loop μ-loop
-loop-again c = search (clash-loop .miss)
+loop-again : tie.Need-loop-again Inv-loop2 μ-loop2 Inv-loop μ-loop
+loop-again c = search clash-past
 
-returns-2 : tie.Need-returns-2 Inv-loop μ-loop
-returns-2 c = search (clash-loop .end)
+returns-2 : tie.Need-returns-2 Inv-loop2 μ-loop2 Inv-loop μ-loop
+returns-2 c = search clash-end
 
 pub any-clash-spec : {M : Type 1} → statement M
 any-clash-spec =
     tie.close
     (tie.spec
+    Inv-loop2
+    μ-loop2
     Inv-loop
     μ-loop
     loop-holds
     mul-slot
     array-copy-out-slot
-    add-clashes-from
-    clashes-from-requires
+    add-j
+    loop2-holds
+    mul-other
+    array-copy-out-other
+    clashes-requires
     returns
+    add-j-2
+    loop2-less
+    loop2-again
     add-i
     loop-less
     loop-again

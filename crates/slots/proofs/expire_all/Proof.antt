@@ -2,7 +2,8 @@
 use Prim.Native.Nat.{_≤_, _-_}
 use native.Mathlib.Omega.{arith}
 use Rattle.slot.specs.Expiry.{expireSlot}
-use Rattle.slots.proofs.Loops.{Mapped, mapped-none, mapped-more, mapped-all}
+use Rattle.slots.proofs.Loops.{Mapped, mapped-none, mapped-more, mapped-kept, mapped-all}
+use Rattle.slots.proofs.Past.{not-past}
 use Rattle.slots.proofs.expire_all.Statement.{statement}
 use Rattle.slots.proofs.expire_all.Tie as tie
 
@@ -21,6 +22,9 @@ mul-slot c = omega arith
 array-copy-out-slot : tie.Need-array-copy-out-slot Inv-loop μ-loop
 array-copy-out-slot c = omega arith
 
+is-past-requires : tie.Need-is-past-requires Inv-loop μ-loop
+is-past-requires c κs = tt
+
 expire-requires : tie.Need-expire-requires Inv-loop μ-loop
 expire-requires c κs = tt
 
@@ -37,7 +41,16 @@ loop-less : tie.Need-loop-less Inv-loop μ-loop
 loop-less c = omega arith
 
 loop-again : tie.Need-loop-again Inv-loop μ-loop
-loop-again c = (omega arith, mapped-more _ _ (c .before .before .before .loop .inv .1) (c .expire .ensures))
+loop-again c = (omega arith, mapped-more _ _ (c .before .before .before .before .before .loop .inv .1) (c .expire .ensures))
+
+add-i-2 : tie.Need-add-i-2 Inv-loop μ-loop
+add-i-2 c = omega arith
+
+loop-less-2 : tie.Need-loop-less-2 Inv-loop μ-loop
+loop-less-2 c = omega arith
+
+loop-again-2 : tie.Need-loop-again-2 Inv-loop μ-loop
+loop-again-2 c = (omega arith, mapped-kept _ _ (c .before .before .before .before .loop .inv .1) (not-past _ _ _ (c .before .is-past .ensures) (c .if1 .left)))
 
 returns : tie.Need-returns Inv-loop μ-loop
 returns c = mapped-all _ (c .before .loop .inv .1) (omega arith)
@@ -51,10 +64,14 @@ expire-all-spec =
     loop-holds
     mul-slot
     array-copy-out-slot
+    is-past-requires
     expire-requires
     mul-held
     array-set-from-held
     add-i
     loop-less
     loop-again
+    add-i-2
+    loop-less-2
+    loop-again-2
     returns)
