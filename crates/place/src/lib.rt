@@ -1,4 +1,4 @@
-// Steps 5 and 6 of a Move: slots for the listed addresses that none holds, and the preference. Depends on listed, readdress, credit, path, slots, slot.
+// Steps 5 and 6 of a Move: slots for the listed addresses that none holds, and the preference. Depends on readdress, credit, path, slot and address.
 use address::Address;
 use credit::TIME_LIMIT;
 use locator::ListedLocator;
@@ -12,36 +12,20 @@ use slot::SLOT_COUNT;
 use slot::Slot;
 use slot::Status;
 ghost use mathlib.Core.Path.{_≡_};
+ghost use mathlib.Core.Bool.{cond};
 ghost use Prim.Native.Nat.{_<_};
 ghost use lib.ListN.{take};
 ghost use Rattle.credit.specs.Clock.{timeLimit};
 ghost use Rattle.slot.specs.Found.{holds, slotCount};
 ghost use Rattle.path.specs.Choices.{lowest};
-ghost use Rattle.path.specs.declared.Choice.the-variants.{Chosen};
-ghost use Rattle.readdress.specs.Steps.{isFree, dropped, placeAt, place, placeOther, placeAll, markedSlot};
+ghost use Rattle.path.specs.declared.Choice.the-variants.{Nowhere};
+ghost use Rattle.readdress.specs.Steps.{isFree, entered, dropped, isHeld, placeAll, markedSlot};
 ghost use Rattle.readdress.specs.Moves.{newPreference};
 ghost use Rattle.place.specs.Placing.{placedAt};
 ghost use Rattle.place.specs.Numbered.{numberOf};
 
-// The slot is empty, or holds a DEPRECATED address that the set does not list.
-fn is_free(slot: Slot, listed: [ListedLocator; SET_LIMIT], count: usize) -> bool
-    ensures { λ r. ⌜ r ≡ isFree (take count listed) slot ⌝ }
-{
-    let holding = slot.holding;
-    match holding {
-        Holding::Empty => true,
-        Holding::Held(l) => {
-            let status = l.status;
-            let address = l.address;
-            boolean::both(
-                slot::is_deprecated(status),
-                !listed::is_listed(listed, count, address),
-            )
-        }
-    }
-}
-
-// The lowest such slot. Its number is below the count of slots.
+// The lowest slot that is free: empty, or with a DEPRECATED address that the set does not list. Its number is below the count of slots.
+// The set is searched here, for each slot, and not in a function that would copy it.
 fn lowest_free(
     slots: [Slot; SLOT_COUNT],
     listed: [ListedLocator; SET_LIMIT],
@@ -50,13 +34,37 @@ fn lowest_free(
     ensures { λ r. ⌜ (r ≡ lowest (isFree (take count listed)) 0 slots) × (numberOf r < slotCount) ⌝ }
 {
     let held = slots;
+    let set = listed;
     let mut i: usize = 0;
-    while i < SLOT_COUNT {
+    'slots: while i < SLOT_COUNT {
         let slot = held[i];
-        if is_free(slot, listed, count) {
+        let holding = slot.holding;
+        // An empty slot is free.
+        let Holding::Held(l) = holding else {
             return Choice::Chosen(i);
+        };
+        // One with a locator that is not DEPRECATED is not.
+        let status = l.status;
+        if !slot::is_deprecated(status) {
+            i += 1;
+            continue 'slots;
         }
-        i += 1;
+        // Of the others, one with a listed address is not.
+        let address = l.address;
+        let mut j: usize = 0;
+        while j < SET_LIMIT {
+            if count <= j {
+                return Choice::Chosen(i);
+            }
+            let entry = set[j];
+            let other = entry.address;
+            if address::same(address, other) {
+                i += 1;
+                continue 'slots;
+            }
+            j += 1;
+        }
+        return Choice::Chosen(i);
     }
     Choice::Nowhere
 }
@@ -106,68 +114,40 @@ fn drop_preference(preferred: Preference, refilled: usize) -> Preference
     }
 }
 
-// The entry takes slot n. It awaits its check, which makes it UNVERIFIED.
-fn place_at(p: Placement, n: usize, time: u64, entry: ListedLocator) -> Placement
-    requires { ⌜ (n < slotCount) × (time < timeLimit) ⌝ }
-    ensures { λ r. ⌜ r ≡ placeAt time entry (Chosen n) p ⌝ }
+// A slot that the entry takes. It awaits its check, which makes it UNVERIFIED.
+fn filled(entry: ListedLocator, time: u64) -> Slot
+    requires { ⌜ time < timeLimit ⌝ }
+    ensures { λ r. ⌜ r ≡ entered time entry ⌝ }
 {
     let address = entry.address;
-    let preferred = p.preferred;
-    let mut slots = p.slots;
-    slots[n] = Slot {
+    Slot {
         holding: Holding::Held(Locator {
             address,
             traffic: entry.traffic,
             expiry: time + entry.lifetime as u64,
             status: Status::Deprecated,
         }),
-    };
-    Placement {
-        slots,
-        preferred: drop_preference(preferred, n),
     }
 }
 
-// The entry takes the lowest free slot.
-fn place_new(
-    p: Placement,
-    time: u64,
+// The slot that an entry with this address takes: none where the address is held already, or else the lowest free one.
+fn room_for(
+    slots: [Slot; SLOT_COUNT],
     listed: [ListedLocator; SET_LIMIT],
     count: usize,
-    entry: ListedLocator,
-) -> Placement
-    requires { ⌜ time < timeLimit ⌝ }
-    ensures { λ r. ⌜ r ≡ place time (take count listed) entry p ⌝ }
+    address: Address,
+) -> Choice
+    ensures { λ r. ⌜ (r ≡ cond (isHeld address slots) Nowhere (lowest (isFree (take count listed)) 0 slots)) × (numberOf r < slotCount) ⌝ }
 {
-    let slots = p.slots;
-    let found = lowest_free(slots, listed, count);
-    match found {
-        Choice::Nowhere => p,
-        Choice::Chosen(n) => place_at(p, n, time, entry),
-    }
-}
-
-// An entry whose address is held has its slot; another takes the lowest free one.
-fn place_other(
-    p: Placement,
-    time: u64,
-    listed: [ListedLocator; SET_LIMIT],
-    count: usize,
-    entry: ListedLocator,
-) -> Placement
-    requires { ⌜ time < timeLimit ⌝ }
-    ensures { λ r. ⌜ r ≡ placeOther time (take count listed) entry p ⌝ }
-{
-    let slots = p.slots;
-    let address = entry.address;
     let holder = slot_of(slots, address);
     match holder {
-        Choice::Nowhere => place_new(p, time, listed, count, entry),
-        Choice::Chosen(_) => p,
+        Choice::Nowhere => lowest_free(slots, listed, count),
+        Choice::Chosen(_) => Choice::Nowhere,
     }
 }
 
-// Each entry of the set so, in listed order.
+// Each entry of the set takes its slot, in listed order. Slots and preference are changed where they stand: a Placement that goes through
+// a function for each entry would be copied by each.
 fn place_each(
     p: Placement,
     time: u64,
@@ -178,17 +158,28 @@ fn place_each(
     ensures { λ r. ⌜ r ≡ placeAll time (take count listed) (take count listed) p ⌝ }
 {
     let set = listed;
-    let mut placed = p;
+    let mut slots = p.slots;
+    let mut preferred = p.preferred;
     let mut i: usize = 0;
     while i < SET_LIMIT {
         if count <= i {
-            return placed;
+            return Placement { slots, preferred };
         }
         let entry = set[i];
-        placed = place_other(placed, time, set, count, entry);
-        i += 1;
+        let address = entry.address;
+        let room = room_for(slots, set, count, address);
+        match room {
+            Choice::Nowhere => {
+                i += 1;
+            }
+            Choice::Chosen(n) => {
+                slots[n] = filled(entry, time);
+                preferred = drop_preference(preferred, n);
+                i += 1;
+            }
+        }
     }
-    placed
+    Placement { slots, preferred }
 }
 
 // Step 5: every listed address has a slot. A time that no association has leaves the slots and the preference as they are.
