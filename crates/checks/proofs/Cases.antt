@@ -5,16 +5,18 @@ use mathlib.Core.Bool.{Bool, true, false, _&&_}
 use mathlib.Core.List.{List}
 use lib.Dec.{eqb}
 use lib.ListN.{length, getD, drop}
-use borrow.Author.Tests.{ltb-false, eq-eqb, ne-eqb}
+use borrow.Author.Tests.{ltb-false, le-ltb, eq-eqb, ne-eqb}
+use native.Mathlib.Omega.{arith}
 use Rattle.octets.specs.Records.{some}
 use Rattle.locator.specs.declared.ListedLocator.{ListedLocator}
 use Rattle.slot.specs.declared.Locator.{Locator}
 use Rattle.slot.specs.declared.Holding.the-variants.{Held}
 use Rattle.slot.specs.declared.Slot.{Slot}
-use Rattle.slot.specs.Found.{isDeprecated}
+use Rattle.slot.specs.Found.{isDeprecated, slotCount}
 use Rattle.slots.proofs.Loops.{Loop, loop, or-cond, some-loop}
 use Rattle.readdress.specs.Steps.{isListed}
 use Rattle.readdress.specs.Checks.{twice, awaits, checkCount, checked}
+use Rattle.readdress.proofs.Checked.{count-most}
 use Rattle.association.specs.Form.{idLimit}
 use Rattle.update.specs.Refusals.{refusal11}
 use Rattle.checks.specs.Given.{given}
@@ -37,15 +39,19 @@ pub awaits-held : (listed : List ListedLocator) (s : Slot) (l : Locator) (d b r 
     b ≡ isListed (l .address) listed → r ≡ (d && b) → r ≡ awaits listed s
 awaits-held listed s l d b r p q u v = rw (v, q, u, p)
 
--- the answer by refusal 11, where the code counted n checks and found b
-module _ (listed : List ListedLocator) (next : ℕ) (ss : List Slot) (n : ℕ) (b : Bool) where
-  pub given-none : (ns : List ℕ) → n ≡ checkCount listed ss → b ≡ refusal11 next n → b ≡ true → ss ≡ given listed next ns ss
-  given-none ns p q r = rw (← p, ← q, r)
+module _ (listed : List ListedLocator) (ss : List Slot) where
+  -- there is at most one check for each slot
+  pub at-most-slots : length ss ≡ slotCount → checkCount listed ss ≤ slotCount
+  at-most-slots e = omega (arith, count-most listed ss)
 
-  pub given-all : (ns : List ℕ) (rs : List Slot) → n ≡ checkCount listed ss → b ≡ refusal11 next n → b ≡ false → rs ≡ checked listed next ns 0 ss →
-      rs ≡ given listed next ns ss
-  given-all ns rs p q r e = e ∙ rw (← p, ← q, r)
+  -- own Update IDs are used up, where the code counted n checks and found b
+  pub given-none : (next : ℕ) (ns : List ℕ) (n : ℕ) (b : Bool) → n ≡ checkCount listed ss → b ≡ refusal11 next n → b ≡ true → ss ≡ given listed next ns ss
+  given-none next ns n b p q r = rw (← p, ← q, r)
 
   -- there are own Update IDs for all
-  pub enough : n ≡ checkCount listed ss → b ≡ refusal11 next n → b ≡ false → next + checkCount listed ss ≤ idLimit
-  enough p q r = rw (← p) (ltb-false idLimit (next + n) (sym q ∙ r))
+  pub enough : (next n : ℕ) (b : Bool) → n ≡ checkCount listed ss → b ≡ refusal11 next n → b ≡ false → next + checkCount listed ss ≤ idLimit
+  enough next n b p q r = rw (← p) (ltb-false idLimit (next + n) (sym q ∙ r))
+
+  -- then all are given
+  pub given-all : (next : ℕ) (ns : List ℕ) (rs : List Slot) → rs ≡ checked listed next ns 0 ss → next + checkCount listed ss ≤ idLimit → rs ≡ given listed next ns ss
+  given-all next ns rs e h = e ∙ rw (le-ltb idLimit (next + checkCount listed ss) h)

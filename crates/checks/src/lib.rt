@@ -1,5 +1,6 @@
 // New checks, and refusal 10. Depends on judge, listed, update, readdress, reply_form, association, locator,
 // locator_set, slots, slot and boolean.
+use association::ID_LIMIT;
 use locator::ListedLocator;
 use locator_set::SET_LIMIT;
 use reply_form::NONCE_COUNT;
@@ -172,6 +173,10 @@ pub fn give_checks(
 ) -> [Slot; SLOT_COUNT]
     ensures { λ r. ⌜ r ≡ given (take count listed) next nonces slots ⌝ }
 {
+    // A slot gets at most one check: where there is an own Update ID for each slot, the checks need not be counted.
+    if next <= ID_LIMIT - SLOT_COUNT as u64 {
+        return deal(slots, listed, count, next, nonces);
+    }
     let checks = count_checks(slots, listed, count);
     if judge::is_used_up(next, checks) {
         return slots;
