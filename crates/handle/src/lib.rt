@@ -15,7 +15,7 @@ ghost use Rattle.update.specs.Messages as messages;
 ghost use Rattle.accept.specs.Judged.{judged};
 ghost use Rattle.accept.specs.Room.{guarded};
 
-// Tries refusals 7 to 10 in their order, and whether the Move is Repeated.
+// Tries refusals 7 to 10 in their order, and whether the Move is Repeated. A test is made where those before it have passed.
 fn judge_move(
     a: Association,
     m: MoveFields,
@@ -28,29 +28,24 @@ fn judge_move(
     let peer = a.peer;
     let echo = m.echo;
     let count = m.count;
-    let stale = judge::is_stale(m.id, peer);
-    let repeat = judge::is_repeat(m.id, peer);
-    let unmatched = verify::is_unmatched(held, echo);
-    let wrong_spi = judge::is_wrong_spi(a.outbound, m.old, m.new, listed, count);
-    let nonce_taken = checks::is_repeated_nonce(nonces, held);
     // Refusal 7: the Update ID is below the highest seen.
-    if stale {
+    if judge::is_stale(m.id, peer) {
         return Judgement::Stops(Refusal::StaleUpdateId);
     }
     // It is the highest seen: Repeated.
-    if repeat {
+    if judge::is_repeat(m.id, peer) {
         return Judgement::Repeats;
     }
     // Refusal 8: the echo response answers no check.
-    if unmatched {
+    if verify::is_unmatched(held, echo) {
         return Judgement::Stops(Refusal::UnmatchedEcho);
     }
     // Refusal 9: the SPIs.
-    if wrong_spi {
+    if judge::is_wrong_spi(a.outbound, m.old, m.new, listed, count) {
         return Judgement::Stops(Refusal::WrongSpi);
     }
     // Refusal 10: the nonces are not new.
-    if nonce_taken {
+    if checks::is_repeated_nonce(nonces, held) {
         return Judgement::Stops(Refusal::RepeatedNonce);
     }
     Judgement::Passes
