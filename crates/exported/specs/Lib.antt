@@ -1,0 +1,4 @@
+pub mod Folds
+pub mod Readings
+pub mod Calls
+pub mod Examples
