@@ -11,6 +11,8 @@ use crate::reader::{fold_lean, fold_value, Listed, MOST};
 const ROUNDS: usize = 600;
 /// How often a reader reads all variants in one round.
 const TURNS: usize = 4;
+/// The places of the stack at which the readers are called in turn.
+const STEPS: usize = 8;
 
 /// Who reads.
 #[derive(Clone, Copy)]
@@ -45,6 +47,17 @@ fn sum(packets: &[&[u8]], times: usize, mut fold: impl FnMut(&[u8]) -> u64) -> u
     sum
 }
 
+/// The same some steps further down the stack. How fast an answer is copied goes
+/// by where it lies in its cache lines, and that changes from run to run.
+#[inline(never)]
+fn read_deeper(steps: usize, who: Who, packets: &[&[u8]], times: usize) -> u64 {
+    if steps == 0 {
+        return read_all(who, packets, times);
+    }
+    let step = black_box([0u64; 2]);
+    read_deeper(steps - 1, who, packets, times).wrapping_add(black_box(step)[0])
+}
+
 /// The nanoseconds of a packet, least and median, for each reader.
 fn time(packets: &[Vec<u8>]) -> [(f64, f64); 3] {
     let mut random = Random::new(7);
@@ -59,7 +72,7 @@ fn time(packets: &[Vec<u8>]) -> [(f64, f64); 3] {
         for turn in 0..3 {
             let which = (round + turn) % 3;
             let begun = Instant::now();
-            black_box(read_all(ALL[which], &order, TURNS));
+            black_box(read_deeper(round % STEPS, ALL[which], &order, TURNS));
             let nanoseconds = begun.elapsed().as_nanos() as f64;
             times[which].push(nanoseconds / (TURNS * order.len()) as f64);
         }

@@ -4,9 +4,6 @@ use slot::Holding;
 use slot::SLOT_COUNT;
 use slot::Slot;
 ghost use mathlib.Core.Path.{_≡_};
-ghost use lib.ListN.{drop};
-ghost use Rattle.octets.specs.Records.{some};
-ghost use Rattle.slot.specs.Clashes.{clash};
 ghost use Rattle.slots.specs.Rules.{clashing, expireAll, isOutstanding};
 ghost use Rattle.slots.specs.Past.{past};
 

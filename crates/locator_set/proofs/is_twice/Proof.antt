@@ -1,5 +1,5 @@
 -- `locator_set::is_twice` meets its contract: by the bucket of the address, or by comparing. Assumes nothing.
-use mathlib.Core.Path.{sym, _∙_}
+use mathlib.Core.Path.{sym}
 use borrow.Author.Needs.{needs}
 use Rattle.locator_set.proofs.Earlier.{other-bucket}
 use Rattle.locator_set.proofs.is_twice.Statement.{statement}
