@@ -7,11 +7,13 @@ use lib.ListN.{replicate}
 use Rattle.refusal.specs.Table.{refusal}
 use Rattle.octets.specs.ExamplesHex.{hex}
 use Rattle.octets.specs.Records.{records, some}
+use Rattle.address.specs.declared.Address.{Address}
 use Rattle.address.specs.Rules.{legal}
 use Rattle.locator.specs.Locators.{illForm}
 use Rattle.locator.specs.declared.ListedLocator.{ListedLocator}
 use Rattle.locator_set.specs.declared.SetVerdict.the-variants.{RefusedSet, Holds}
 use Rattle.locator_set.specs.Sets.{twice, marks, refusal6, blank, blanks, setOf}
+use Rattle.locator_set.specs.Arrays.{addresses, bucketOf, unused}
 
 -- a locator of 2001:db8::n for both kinds of traffic and 60 seconds, with P or without it (1 or 0)
 abbrev locator : (n p : ℕ) → List ℕ
@@ -27,6 +29,10 @@ entry n preferred = record {
   kind = 0;
   preferred = preferred;
 }
+
+-- an address by its halves
+abbrev address : (high low : ℕ) → Address
+address high low = record { high = high; low = low }
 
 -- locators without P of these addresses, one after another
 abbrev all : List ℕ → List ℕ
@@ -84,6 +90,16 @@ counted : (marks (locator 1 1 ++ (locator 2 0 ++ locator 3 1)) 5 (0 ∷ 24 ∷ 4
     × (twice (all (1 ∷ 2 ∷ [])) (record { high = 0x20010db800000000; low = 2 } ∷ []) (0 ∷ 24 ∷ []) ≡ true)
 unfolding marks twice some
 counted = (refl, refl, refl)
+
+-- the bucket of an address is by the low bits of both halves; of 3 and 4 it is the same as of 2 and 5 and another than of 3 and 5
+buckets : (map bucketOf (address 0 0 ∷ address 3 4 ∷ address 2 5 ∷ address 3 5 ∷ address 64 63 ∷ address 63 63 ∷ []) ≡ 0 ∷ 7 ∷ 7 ∷ 8 ∷ 63 ∷ 62 ∷ [])
+    × (map (unused (false ∷ true ∷ [])) (address 0 0 ∷ address 0 1 ∷ address 1 0 ∷ address 1 1 ∷ []) ≡ true ∷ false ∷ false ∷ true ∷ [])
+buckets = (refl, refl)
+
+-- the first two addresses of the arrays, the later one first
+held : addresses 2 (1 ∷ 2 ∷ 3 ∷ []) (4 ∷ 5 ∷ 6 ∷ []) ≡ address 2 5 ∷ address 1 4 ∷ []
+unfolding addresses
+held = refl
 
 -- the whole answer: a set of three, in listed order, one of eight, and a refused one
 answers : (setOf (locator 5 0 ++ (locator 4 1 ++ locator 6 0))

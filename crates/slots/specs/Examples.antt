@@ -11,6 +11,7 @@ use Rattle.slot.specs.declared.Slot.{Slot}
 use Rattle.slot.specs.Found.{emptySlot, slotOf}
 use Rattle.slot.specs.Clashes.{clash}
 use Rattle.slots.specs.Rules.{clashing, expireAll, isOutstanding}
+use Rattle.slots.specs.Past.{past}
 
 -- a slot that holds 2001:db8::n until 100 + n
 abbrev held : (n : ℕ) → Status → Slot
@@ -52,6 +53,10 @@ expiries : map (λ (time : ℕ). expireAll time (eight (held 1 Active) (held 2 (
     ∷ eight (held 1 Deprecated) (held 2 Deprecated) (held 3 Deprecated)
     ∷ []
 expiries = refl
+
+-- before its expiry, 103, at it and past it; an empty slot is never
+pasts : (map (λ (time : ℕ). past time (held 3 Active)) (102 ∷ 103 ∷ 104 ∷ []) ≡ false ∷ true ∷ true ∷ []) × (past 104 emptySlot ≡ false)
+pasts = (refl, refl)
 
 -- nonces 7 and 9 are outstanding; no other is, and not the Update ID of their checks
 outstanding : (map (isOutstanding (eight (held 1 (waiting 7)) (held 2 Active) (held 3 (waiting 9)))) (7 ∷ 9 ∷ 8 ∷ 3 ∷ 0 ∷ [])
