@@ -64,8 +64,8 @@ fn time(packets: &[Vec<u8>]) -> [(f64, f64); 3] {
     let mut order: Vec<&[u8]> = packets.iter().map(Vec::as_slice).collect();
     let mut times: [Vec<f64>; 3] = Default::default();
     for round in 0..ROUNDS {
-        // A new order in each round, the same for all three, so that no branch
-        // is foretold by heart.
+        // A new order in each round, the same for all three, so that branches
+        // are not predicted from the order.
         for i in (1..order.len()).rev() {
             order.swap(i, random.below(i + 1));
         }
