@@ -1,4 +1,4 @@
--- The cases that document 01 marks to be "proved together from the definitions, as one table under one claim".
+-- The cases that document 01 marks to be "proved together from the definitions, as one table under one claim", with order 3's in the place of one.
 use Prim.Native.Nat.{ℕ}
 use mathlib.Core.Path.{_≡_, refl}
 use mathlib.Core.Bool.{true}
@@ -122,8 +122,11 @@ table =
     -- "Last ageing 100: tick 104 keeps credit, 105 ages."
     ∷ (answer (tickOf (verified 100 100 1000) 104) gives answer (accepted (verified 104 100 1000)))
     ∷ (answer (tickOf (verified 100 100 1000) 105) gives answer (accepted (verified 105 105 875)))
-    -- "Tick 117 from credit 1,000 gives 875."
-    ∷ (answer (tickOf (verified 100 100 1000) 117) gives answer (accepted (verified 117 117 875)))
+    -- order 3, in the place of document 01's case at 117: "a tick 17 seconds after the last ageing holds three ageings: 1,000 becomes 669, and the last ageing
+    -- stands at 15 seconds, leaving two towards the next": then 119 ages nothing and 120 once
+    ∷ (answer (tickOf (verified 100 100 1000) 117) gives answer (accepted (verified 117 115 669)))
+    ∷ (answer (tickOf (verified 117 115 669) 119) gives answer (accepted (verified 119 115 669)))
+    ∷ (answer (tickOf (verified 119 115 669) 120) gives answer (accepted (verified 120 120 585)))
     -- "Lifetime 60 set at 100: kept at 159, DEPRECATED at 160.": set by a start, and by a Move where a start set 30
     ∷ (statusAfter (address 1) (tickOf (startedFor 60) 159 .association) gives status (some Active))
     ∷ (statusAfter (address 1) (tickOf (startedFor 60) 160 .association) gives status (some Deprecated))

@@ -140,15 +140,15 @@ update-ids = refl
 -- ---- the credit
 -- 1,000 bytes arrive; a new SPI leaves address 1 UNVERIFIED; sends and ticks follow
 abbrev spending : List Call
-spending = arrival 1000 ∷ brings (moveOf 0x2001 0x2002 0 one) 0x51 ∷ send 1000 ∷ send 100 ∷ tick 104 ∷ tick 117 ∷ send 700 ∷ send 87 ∷ []
+spending = arrival 1000 ∷ brings (moveOf 0x2001 0x2002 0 one) 0x51 ∷ send 1000 ∷ send 100 ∷ tick 104 ∷ tick 117 ∷ send 500 ∷ send 102 ∷ []
 
--- what they put in the ledger: a refused send and a tick that ages nothing put nothing. Of 1,000 bytes that arrived 800 were granted, and after one
--- ageing 87 are left, which do not cover 87
+-- what they put in the ledger: a refused send and a tick that ages nothing put nothing, and one 17 seconds after the last ageing three ageings. Of 1,000 bytes
+-- that arrived 600 were granted, and after the ageings 102 are left, which do not cover 102
 spent : (answersOf spending
     ≡ done ∷ done ∷ refusedBy (refusal 15) ∷ grantedTo 0 ∷ done ∷ done ∷ grantedTo 0 ∷ refusedBy (refusal 15) ∷ [])
-    × (ledger 100 (history begun spending) ≡ arrived 1000 ∷ granted 100 ∷ ageing ∷ granted 700 ∷ [])
-    × (grantedIn (ledger 100 (history begun spending)) ≡ 800)
+    × (ledger 100 (history begun spending) ≡ arrived 1000 ∷ granted 100 ∷ ageing ∷ ageing ∷ ageing ∷ granted 500 ∷ [])
+    × (grantedIn (ledger 100 (history begun spending)) ≡ 600)
     × (arrivedIn (ledger 100 (history begun spending)) ≡ 1000)
-    × (after begun spending .credit ≡ 87)
+    × (after begun spending .credit ≡ 102)
 unfolding calls history after ledger arrivedIn grantedIn
 spent = (refl, refl, refl, refl, refl)

@@ -41,14 +41,15 @@ refusals : (map (tickOf begun) (100 ∷ 101 ∷ 2 ^ 40 ∷ []) ≡ replicate 3 (
 unfolding tickOf refusal0 clashing records.some clash
 refusals = (refl, refl)
 
--- 102 and 104 age nothing, 105 ages once, and so does 117, where one locator expires; at 159 the other is kept, and at 160 it is DEPRECATED
+-- 102 and 104 age nothing and 105 ages once; 117 ages three times, and one locator expires; at 159 the other is kept, after eleven ageings, and at 160, the
+-- twelfth, it is DEPRECATED
 ticks : map (tickOf begun) (102 ∷ 104 ∷ 105 ∷ 117 ∷ 159 ∷ 160 ∷ [])
     ≡ accepted begun
     ∷ accepted (with 104 100 1000 Active checked)
     ∷ accepted (with 105 105 875 Active checked)
-    ∷ accepted (with 117 117 875 Active Deprecated)
-    ∷ accepted (with 159 159 875 Active Deprecated)
-    ∷ accepted (with 160 160 875 Deprecated Deprecated)
+    ∷ accepted (with 117 115 669 Active Deprecated)
+    ∷ accepted (with 159 155 228 Active Deprecated)
+    ∷ accepted (with 160 160 199 Deprecated Deprecated)
     ∷ []
 unfolding tickOf refusal0 clashing records.some clash agedBy
 ticks = refl

@@ -7,8 +7,7 @@ use Rattle.association.specs.Form.{refusal0, withClock, accepted, refused}
 use Rattle.association.specs.declared.Association.{Association}
 use Rattle.association.specs.declared.Answer.{Answer}
 
--- "Tick stores the time. Locators with time at or past expiry turn DEPRECATED. If 5 seconds or more have passed since the last ageing, credit c
--- becomes floor(7c / 8), once, and the last ageing is now."
+-- "Tick stores the time. Locators with time at or past expiry turn DEPRECATED.", and order 3 of the rest: "Each whole 5 seconds is one ageing"
 abbrev pub ticked : Association → (time : ℕ) → Association
 ticked a time = withClock a time (lastAgeing (a .aged) time) (creditAt (a .aged) time (a .credit)) (expireAll time (a .slots))
 

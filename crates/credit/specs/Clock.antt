@@ -1,6 +1,6 @@
--- The clock, in seconds, and the ageing of credit.
-use Prim.Native.Nat.{ℕ, zero, suc, _+_, _*_, _/_, _^_}
-use mathlib.Core.Bool.{Bool, cond, _||_}
+-- The clock, in seconds, and the ageing of credit "at a constant period" (order 3).
+use Prim.Native.Nat.{ℕ, zero, suc, _+_, _-_, _*_, _/_, _^_}
+use mathlib.Core.Bool.{Bool, _||_}
 use lib.Dec.{leb, ltb}
 
 -- "time below 2^40"
@@ -11,23 +11,19 @@ timeLimit = 2 ^ 40
 abbrev pub refusal12 : (stored time : ℕ) → Bool
 refusal12 stored time = ltb time stored || leb timeLimit time
 
--- "5 seconds or more"
+-- the constant period: "Each whole 5 seconds is one ageing"
 abbrev pub ageingInterval : ℕ
 ageingInterval = 5
 
--- "If 5 seconds or more have passed since the last ageing"
-abbrev pub due : (last time : ℕ) → Bool
-due last time = leb (last + ageingInterval) time
-
--- the ageings that a tick makes: one, "once", where it is due
+-- the ageings that a tick at this time makes: "a tick 17 seconds after the last ageing holds three ageings"
 abbrev pub ageings : (last time : ℕ) → ℕ
-ageings last time = cond (due last time) 1 0
+ageings last time = (time - last) / ageingInterval
 
 -- "credit c becomes floor(7c / 8)"
 abbrev pub agedOnce : ℕ → ℕ
 agedOnce c = 7 * c / 8
 
--- the credit after so many ageings
+-- the credit after so many ageings, one after the other
 unfoldable pub agedBy : (count credit : ℕ) → ℕ
 agedBy zero credit = credit
 agedBy (suc count) credit = agedBy count (agedOnce credit)
@@ -36,6 +32,6 @@ agedBy (suc count) credit = agedBy count (agedOnce credit)
 abbrev pub creditAt : (last time credit : ℕ) → ℕ
 creditAt last time credit = agedBy (ageings last time) credit
 
--- "and the last ageing is now", where it is due
+-- "the last ageing stands at 15 seconds, leaving two towards the next"
 abbrev pub lastAgeing : (last time : ℕ) → ℕ
-lastAgeing last time = cond (due last time) time last
+lastAgeing last time = last + ageings last time * ageingInterval

@@ -1,3 +1,4 @@
 pub mod Credit
 pub mod Clock
+pub mod Lasting
 pub mod Examples

@@ -1,7 +1,7 @@
 // The numbers of credit and clock: their limits, what an arrival adds, and what ageing takes. Depends on boolean.
 ghost use mathlib.Core.Path.{_≡_};
 ghost use Rattle.credit.specs.Credit.{refusal13, credited, covers};
-ghost use Rattle.credit.specs.Clock.{refusal12, due, creditAt, lastAgeing};
+ghost use Rattle.credit.specs.Clock.{refusal12, ageings, agedOnce, agedBy, creditAt, lastAgeing};
 
 // The credit that is never exceeded, in bytes.
 pub const CREDIT_LIMIT: u64 = 1048576;
@@ -50,32 +50,53 @@ pub fn is_bad_time(stored: u64, time: u64) -> bool
     boolean::either(time < stored, TIME_LIMIT <= time)
 }
 
-// The interval has passed since the last ageing.
-fn is_due(last: u64, time: u64) -> bool
-    ensures { λ r. ⌜ r ≡ due last time ⌝ }
+// How many ageings a tick at the time makes: one for each whole interval since the last ageing.
+fn count_ageings(last: u64, time: u64) -> u64
+    ensures { λ r. ⌜ r ≡ ageings last time ⌝ }
 {
     if time < last {
-        return false;
+        return 0;
     }
-    AGEING_INTERVAL <= time - last
+    (time - last) / AGEING_INTERVAL
 }
 
-// The credit at a time, aged where that is due. It is taken in eighths, so that no credit overflows.
+// The credit after one ageing. It is taken in eighths, so that no credit overflows.
+fn age_once(credit: u64) -> u64
+    ensures { λ r. ⌜ r ≡ agedOnce credit ⌝ }
+{
+    7 * (credit / 8) + 7 * (credit % 8) / 8
+}
+
+// The credit after so many ageings, one after the other. A credit of 0 stays 0, so it ends there: whatever the count, no more rounds are made than the credit lasts,
+// which is some hundred from the limit.
+fn age_by(count: u64, credit: u64) -> u64
+    ensures { λ r. ⌜ r ≡ agedBy count credit ⌝ }
+{
+    let mut made = 0;
+    let mut aged = credit;
+    while made < count {
+        if aged < 1 {
+            return 0;
+        }
+        aged = age_once(aged);
+        made = made + 1;
+    }
+    aged
+}
+
+// The credit at a time: each whole interval since the last ageing ages it.
 pub fn age_credit(last: u64, time: u64, credit: u64) -> u64
     ensures { λ r. ⌜ r ≡ creditAt last time credit ⌝ }
 {
-    if is_due(last, time) {
-        return 7 * (credit / 8) + 7 * (credit % 8) / 8;
-    }
-    credit
+    age_by(count_ageings(last, time), credit)
 }
 
-// The time of the last ageing, after a tick at the time.
+// The time of the last ageing, after a tick at the time: what is left of an interval counts towards the next.
 pub fn age_clock(last: u64, time: u64) -> u64
     ensures { λ r. ⌜ r ≡ lastAgeing last time ⌝ }
 {
-    if is_due(last, time) {
-        return time;
+    if time < last {
+        return last;
     }
-    last
+    time - (time - last) % AGEING_INTERVAL
 }

@@ -186,26 +186,28 @@ grants : (map (λ (n : ℕ). entriesOf 100 mixed (send 7) (grantedTo n)) (0 ∷ 
     × (map (entriesOf 100 mixed (send 7)) (refusedBy (refusal 15) ∷ done ∷ repeated ∷ []) ≡ replicate 3 [])
 grants = (refl, refl)
 
--- an accepted arrival, a tick 5 seconds after the last ageing and one before that; refused ones put nothing in the ledger, and a message never does
+-- an accepted arrival, a tick 5 seconds after the last ageing, one before that and one 17 seconds after it; refused ones put nothing in the ledger, and a message
+-- never does
 entries : (map (entriesOf 100 begun (arrival 7)) (done ∷ refusedBy (refusal 13) ∷ []) ≡ (arrived 7 ∷ []) ∷ [] ∷ [])
     × (map (entriesOf 100 begun (tick 105)) (done ∷ refusedBy (refusal 12) ∷ []) ≡ (ageing ∷ []) ∷ [] ∷ [])
-    × (entriesOf 100 begun (tick 104) done ≡ [])
+    × (map (λ (t : ℕ). entriesOf 100 begun (tick t) done) (104 ∷ 117 ∷ []) ≡ [] ∷ replicate 3 ageing ∷ [])
     × (map (entriesOf 100 begun first) (done ∷ repeated ∷ refusedBy (refusal 2) ∷ []) ≡ replicate 3 [])
 entries = (refl, refl, refl, refl)
 
 -- the last ageing moves by an accepted tick alone, and only by one that ages
 last-ageings : (map (λ (c : Call). lastOf 100 c done) (tick 104 ∷ tick 105 ∷ tick 117 ∷ first ∷ arrival 7 ∷ send 7 ∷ [])
-    ≡ 100 ∷ 105 ∷ 117 ∷ 100 ∷ 100 ∷ 100 ∷ [])
+    ≡ 100 ∷ 105 ∷ 115 ∷ 100 ∷ 100 ∷ 100 ∷ [])
     × (lastOf 100 (tick 117) (refusedBy (refusal 12)) ≡ 100)
 last-ageings = (refl, refl)
 
 -- "reckoned from the time of last ageing held at the sequence's beginning", 100, "and from the accepted ticks' times": the ticks at 104 and 109 age
--- nothing, those at 105 and 110 do, and one at 106 that is refused does not count
+-- nothing, those at 105 and 110 do, and one at 106 that is refused does not count; one at 117 ages three times, and what it leaves counts at 120
 ledgers : (ledgerOf begun (tick 104 ∷ tick 105 ∷ arrival 9 ∷ tick 109 ∷ tick 106 ∷ tick 110 ∷ []) ≡ ageing ∷ arrived 9 ∷ ageing ∷ [])
     × (ledger 103 (history begun (tick 105 ∷ tick 107 ∷ tick 108 ∷ [])) ≡ ageing ∷ [])
+    × (ledgerOf begun (tick 117 ∷ arrival 8 ∷ tick 119 ∷ arrival 9 ∷ tick 120 ∷ []) ≡ ageing ∷ ageing ∷ ageing ∷ arrived 8 ∷ arrived 9 ∷ ageing ∷ [])
     × (ledgerOf begun [] ≡ [])
 unfolding sequences
-ledgers = (refl, refl, refl)
+ledgers = (refl, refl, refl, refl)
 
 -- a ledger with two of each
 abbrev book : List Entry

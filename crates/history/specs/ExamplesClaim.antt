@@ -108,6 +108,19 @@ decays d = (
   d .decayed (arrived 1000 ∷ granted 100 ∷ ageing ∷ []) (ageing ∷ []) (granted 500 ∷ granted 90 ∷ []) (arrived 1500 ∷ []) refl tt tt,
 )
 
+-- the same with one tick 17 seconds after the last ageing, which "holds three ageings": 600 bytes are granted of the 669 that it leaves of 1,000
+abbrev silent : List Call
+silent = arrival 1000 ∷ brings (moveTwo "00002002" "00000000") 0x51 ∷ tick 117 ∷ send 600 ∷ []
+
+-- "Each whole 5 seconds is one ageing for demand 3's k.": all three, 512 times 600 and 343 times 1,000; the last two, 64 times 600 and 49 times 875; the last
+decays-in-a-tick : Demand3 begun silent → (307200 ≤ 343000) × (38400 ≤ 42875) × (4800 ≤ 5355)
+unfolding sequences
+decays-in-a-tick d = (
+  d .decayed (arrived 1000 ∷ []) (ageing ∷ ageing ∷ ageing ∷ []) (granted 600 ∷ []) [] refl tt tt,
+  d .decayed (arrived 1000 ∷ ageing ∷ []) (ageing ∷ ageing ∷ []) (granted 600 ∷ []) [] refl tt tt,
+  d .decayed (arrived 1000 ∷ ageing ∷ ageing ∷ []) (ageing ∷ []) (granted 600 ∷ []) [] refl tt tt,
+)
+
 -- "A call that finds an address UNVERIFIED leaves it ACTIVE exactly when" it verifies it: both ways, after the first Move
 exactly : (c : Call) → Demand3 begun (first ∷ []) →
     (leaves (address 2) (next begun (first ∷ []) c) ≡ some Active → Verifies (address 2) before (next begun (first ∷ []) c))

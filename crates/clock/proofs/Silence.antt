@@ -1,0 +1,40 @@
+-- A tick after a long silence, which has more ageings than can be computed. Assumes nothing.
+use mathlib.Core.Path.{_≡_, _∙_, ap}
+use mathlib.Core.Bool.{false}
+use Prim.Native.Nat.{ℕ, _-_, _*_, _≤_, _<_}
+use native.Mathlib.Omega.{arith}
+use borrow.Author.Tests.{le-ltb, lt-leb}
+use Rattle.credit.specs.Credit.{creditLimit}
+use Rattle.credit.specs.Clock.{timeLimit, ageingInterval, lastAgeing}
+use Rattle.credit.specs.Lasting.{lastingWithin, lasting}
+use Rattle.credit.proofs.Ageing.{silence}
+use Rattle.slots.specs.Rules.{expireAll}
+use Rattle.association.specs.Form.{refusal0, withClock, accepted}
+use Rattle.association.specs.declared.Association.{Association}
+use Rattle.association.proofs.Sound.{sound}
+use Rattle.clock.specs.Ticks.{tickOf}
+
+-- the association after a tick that leaves no credit
+abbrev pub silenced : Association → (time : ℕ) → Association
+silenced a time = withClock a time (lastAgeing (a .aged) time) 0 (expireAll time (a .slots))
+
+-- a tick on an association that refusal 0 does not refuse leaves no credit where as many intervals have passed as the limit lasts
+pub after-silence : (a : Association) (time : ℕ) → refusal0 a ≡ false → a .time ≤ time → time < timeLimit → lasting creditLimit * ageingInterval ≤ time - a .aged →
+    tickOf a time ≡ accepted (silenced a time)
+unfolding tickOf
+after-silence a time p h k l =
+    let s = sound a p in
+    let none = silence creditLimit (a .aged) time (a .credit) (s .credit) l in
+    let early = le-ltb time (a .time) h in
+    let within = lt-leb timeLimit time k in
+    rw (p, early, within, none)
+
+-- a tick at 2^40 - 1 where the last ageing is at time 0: of its 219,902,325,555 ageings the 93rd leaves nothing, and the last is now
+pub longest : (a : Association) → refusal0 a ≡ false → a .aged ≡ 0 →
+    tickOf a 1099511627775 ≡ accepted (withClock a 1099511627775 1099511627775 0 (expireAll 1099511627775 (a .slots)))
+unfolding lastingWithin
+longest a p z =
+    let s = sound a p in
+    let t = s .time in
+    after-silence a 1099511627775 p (omega arith) (omega arith) (omega arith)
+    ∙ ap (λ (n : ℕ). accepted (withClock a 1099511627775 n 0 (expireAll 1099511627775 (a .slots)))) (omega arith)
