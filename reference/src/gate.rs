@@ -2,7 +2,7 @@
 //! to each case, then random calls.
 
 use crate::announcement::bytes_to_write;
-use crate::association::{Association, CREDIT_LIMIT, LARGEST_SIZE, TIME_LIMIT};
+use crate::association::{Association, AGEING_PERIOD, CREDIT_LIMIT, LARGEST_SIZE, TIME_LIMIT};
 use crate::compose::{
     ack, echo_request, echo_response, esp_info, locator, locator_set, packet, sections, seq,
     set_header_length, CheckText, MoveText, Tracer, Written,
@@ -62,6 +62,12 @@ pub fn trace() -> Vec<u8> {
     credit(&mut script);
     paths(&mut script);
     ageing(&mut script);
+    steady_ticks(&mut script);
+    rounding(&mut script);
+    ageing_without_credit(&mut script);
+    ageing_from_the_limit(&mut script);
+    silence(&mut script);
+    silence_to_the_end_of_time(&mut script);
     expiry(&mut script);
     end_of_time(&mut script);
     opaque_lengths(&mut script);
@@ -183,6 +189,13 @@ impl Script {
 
     fn arrive(&mut self, size: u64) {
         self.call(Call::Arrival { size });
+    }
+
+    /// Arrivals up to the credit limit.
+    fn fill(&mut self) {
+        while self.association().credit < CREDIT_LIMIT {
+            self.arrive(LARGEST_SIZE);
+        }
     }
 
     fn send(&mut self, size: u64) {
@@ -1197,25 +1210,145 @@ fn paths(s: &mut Script) {
     }
 }
 
+/// Ticks that hold no ageing, one and several, with and without a rest.
 fn ageing(s: &mut Script) {
-    for passed in [0, 1, 4, 5, 6, 9, 10, 17, 40] {
+    // The last are more ageings than 8, 16 and 32 bits count.
+    let many = [24, 25, 26, 40, 5 << 8, 5 << 16, 5 << 32];
+    for passed in (0..=21).chain(many) {
+        ageing_after(s, passed, 100, 1000);
+    }
+    for (begin, credit) in [
+        (0, 1001),
+        (3, LARGEST_SIZE),
+        ((1 << 32) - 8, 20),
+        (TIME_LIMIT - 40, 9),
+    ] {
+        for passed in [4, 5, 6, 9, 10, 11, 14, 15, 17] {
+            ageing_after(s, passed, begin, credit);
+        }
+    }
+}
+
+/// A tick so long after a start, then the rest made up to 4 seconds and to 5,
+/// then a tick that is refused.
+fn ageing_after(s: &mut Script, passed: u64, begin: u64, credit: u64) {
+    s.start_at(begin, 60);
+    s.arrive(credit);
+    s.tick(begin + passed);
+    let aged = s.association().aged;
+    s.tick(aged + 4);
+    s.tick(aged + 5);
+    s.tick(aged + 4);
+}
+
+/// Ticks at even steps: what one leaves over counts towards the next ageing.
+fn steady_ticks(s: &mut Script) {
+    for step in [1, 2, 3, 4, 6, 7, 9, 11, 13] {
         s.start();
         s.arrive(1000);
-        s.tick(100 + passed);
-        s.tick(104 + passed);
-        s.tick(105 + passed);
-        s.tick(99 + passed);
+        for n in 1..=8 {
+            s.tick(100 + step * n);
+        }
     }
     s.start();
     s.arrive(20);
-    for step in 1..30 {
-        s.tick(100 + 5 * step);
+    for n in 1..=20 {
+        s.tick(100 + AGEING_PERIOD * n);
     }
-    for _ in 0..17 {
-        s.arrive(LARGEST_SIZE);
+}
+
+/// Several ageings in one tick, each rounded; small credits are soon gone.
+fn rounding(s: &mut Script) {
+    for credit in [1, 2, 3, 7, 8, 9, 15, 16, 17, 1000, 1001, LARGEST_SIZE] {
+        for ageings in [1, 2, 3, 8] {
+            s.start();
+            s.arrive(credit);
+            s.tick(100 + AGEING_PERIOD * ageings);
+        }
     }
-    for step in 30..34 {
-        s.tick(100 + 5 * step);
+}
+
+/// The last ageing moves without credit too: what arrives after a silence does
+/// not age for it.
+fn ageing_without_credit(s: &mut Script) {
+    for passed in [4, 5, 9, 10, 17, 40_000] {
+        s.start();
+        s.tick(100 + passed);
+        s.arrive(1000);
+        let aged = s.association().aged;
+        s.tick(aged + 4);
+        s.tick(aged + 5);
+    }
+}
+
+/// The 93rd ageing from the credit limit leaves 0.
+fn ageing_from_the_limit(s: &mut Script) {
+    s.start();
+    for (ageings, rest) in [
+        (1, 0),
+        (91, 4),
+        (92, 0),
+        (92, 4),
+        (93, 0),
+        (93, 4),
+        (94, 0),
+        (500, 2),
+    ] {
+        s.fill();
+        let aged = s.association().aged;
+        s.tick(aged + AGEING_PERIOD * ageings + rest);
+        let aged = s.association().aged;
+        s.tick(aged + 5);
+        s.tick(aged + 10);
+    }
+}
+
+/// What may be sent to an UNVERIFIED address before and after a silence.
+fn silence(s: &mut Script) {
+    for passed in [4, 5, 10, 17, 60, 300, 1 << 20] {
+        s.start();
+        let mut set = set_of(&[2]);
+        set[0].lifetime = u32::MAX;
+        s.list(set);
+        s.arrive(2000);
+        s.send(999);
+        s.tick(100 + passed);
+        // What could be sent before, what is left, and one less.
+        let credit = s.association().credit;
+        s.send(1000);
+        s.send(credit.max(1));
+        s.send(credit.saturating_sub(1).max(1));
+        s.arrive(1000);
+        s.send(500);
+        s.tick(110 + passed);
+        s.send(500);
+        s.send(300);
+    }
+}
+
+/// Silence up to the last second, in one tick and in two, and calls after it.
+fn silence_to_the_end_of_time(s: &mut Script) {
+    let last = TIME_LIMIT - 1;
+    for begin in [0, 1, 3] {
+        s.start_at(begin, u32::MAX);
+        s.fill();
+        s.tick(last);
+        s.arrive(1000);
+        s.list(set_of(&[1, 2]));
+        s.send(1000);
+        s.send(999);
+        s.tick(last);
+        s.send(1);
+        s.tick(last - 1);
+        s.tick(TIME_LIMIT);
+    }
+    for begin in 0..=5 {
+        s.start_at(begin, u32::MAX);
+        s.arrive(1000);
+        s.tick(last - 5);
+        s.arrive(1000);
+        s.tick(last - 1);
+        s.tick(last);
     }
 }
 

@@ -1,10 +1,10 @@
 //! What became of past checks and what came before, so that the census can
-//! tell late echoes and repeated messages apart. The association itself keeps
-//! none of this.
+//! tell late echoes, repeated messages and ageings apart. The association itself
+//! keeps none of this.
 
 use std::collections::BTreeMap;
 
-use crate::association::Association;
+use crate::association::{Association, AGEING_PERIOD};
 use crate::packet::{content_of, echo_of, Content};
 use crate::reasons::Notes;
 
@@ -33,6 +33,8 @@ pub struct History {
     latest: Option<Latest>,
     /// Whether the inbound SPI is one that we announced in place of another.
     new_inbound: bool,
+    /// Time of the latest tick that aged.
+    ageing_tick: Option<u64>,
 }
 
 impl History {
@@ -64,6 +66,39 @@ impl History {
             }
             Some(Content::Reply { .. }) | None => {}
         }
+    }
+
+    /// Takes in an accepted tick.
+    pub fn ticked(&mut self, before: &Association, after: &Association, notes: &mut Notes) {
+        // Without credit an ageing hardly shows.
+        if before.credit > 0 {
+            self.note_rest(before, after, notes);
+        }
+        if after.aged > before.aged {
+            self.ageing_tick = Some(after.time);
+        }
+    }
+
+    /// Notes how seconds that earlier ticks left over count towards an ageing.
+    fn note_rest(&self, before: &Association, after: &Association, notes: &mut Notes) {
+        let ageings = (after.aged - before.aged) / AGEING_PERIOD;
+        let soon = after.time - before.time < AGEING_PERIOD;
+        let aged_soon = ageings > 0 && soon;
+        notes.add_if(aged_soon, "tick: aged within 5 seconds of the tick before");
+        let with_rest = self.ageing_tick.filter(|time| *time > before.aged);
+        let Some(ageing_tick) = with_rest else {
+            return;
+        };
+        match after.time - before.aged {
+            4 if after.time > before.time => {
+                notes.add("tick: 4 seconds with the rest of an ageing")
+            }
+            5 => notes.add("tick: 5 seconds with the rest of an ageing"),
+            _ => {}
+        }
+        let without_rest = (after.time - ageing_tick) / AGEING_PERIOD;
+        let one_more = ageings > 1 && ageings > without_rest && after.credit > 0;
+        notes.add_if(one_more, "tick: several ageings, one by a rest");
     }
 
     /// Takes in an accepted announcement, with the inbound SPI before and after.

@@ -5,7 +5,9 @@ use std::io::{self, Write};
 use std::net::Ipv6Addr;
 
 use crate::announcement::bytes_to_write;
-use crate::association::{Association, Locator, CREDIT_LIMIT, LARGEST_SIZE, TIME_LIMIT};
+use crate::association::{
+    aged_credit, Association, Locator, AGEING_PERIOD, CREDIT_LIMIT, LARGEST_SIZE, TIME_LIMIT,
+};
 use crate::compose::{
     ack, echo_request, echo_response, esp_info, packet, record_of, sections, seq,
     set_header_length, CheckText, MoveText, Tracer, Written,
@@ -28,7 +30,7 @@ pub fn write_trace(seed: u64, calls: u64, out: &mut impl Write) -> io::Result<()
 }
 
 /// The splitmix64 generator.
-struct Random(u64);
+pub struct Random(pub u64);
 
 impl Random {
     fn number(&mut self) -> u64 {
@@ -39,7 +41,7 @@ impl Random {
         z ^ (z >> 31)
     }
 
-    fn below(&mut self, limit: u64) -> u64 {
+    pub fn below(&mut self, limit: u64) -> u64 {
         self.number() % limit
     }
 
@@ -55,7 +57,7 @@ impl Random {
         self.below(100) < chance
     }
 
-    fn pick<T: Clone>(&mut self, choices: &[T]) -> T {
+    pub fn pick<T: Clone>(&mut self, choices: &[T]) -> T {
         choices[self.index(choices.len())].clone()
     }
 
@@ -188,6 +190,11 @@ impl Generator {
             self.past_packets.clear();
             self.burst = 0;
         }
+        let association = self.tracer.player.association.as_ref();
+        if association.is_some_and(|a| a.time + 400 >= TIME_LIMIT) {
+            // The clock soon stands still.
+            self.style.calls = self.style.calls.min(200);
+        }
         self.remember_nonces(&before);
     }
 
@@ -269,10 +276,6 @@ impl Generator {
             2 => TIME_LIMIT - 1 - r.below(400),
             _ => r.below(1_000_000),
         };
-        if time + 400 >= TIME_LIMIT {
-            // The clock soon stands still.
-            self.style.calls = self.style.calls.min(200);
-        }
         Call::Start(StartInputs {
             time,
             outbound: r.pick(&[1, 2, 0x2001, u32::MAX]),
@@ -353,11 +356,13 @@ impl Generator {
             2 => r.pick(&[TIME_LIMIT, TIME_LIMIT + 1, u64::MAX]),
             3 => now,
             4 if now + 500 > TIME_LIMIT => TIME_LIMIT - 1,
+            5 if r.percent(10) => far_ahead(r, now),
             5 => now + 10 + r.below(2000),
             6..=8 => aged + 4,
             9..=13 => aged + 5,
             14..=15 => aged + 6,
             16..=21 if !expiries.is_empty() => r.pick(&expiries) + r.below(3) - 1,
+            22..=27 => periods_later(r, association),
             _ => now + r.below(4),
         };
         Call::Tick { time }
@@ -1000,7 +1005,7 @@ impl Style {
             answers: r.pick(&[5, 30, 40, 60]),
             new_spis: r.pick(&[0, 10, 10, 30]),
             spoilt: r.pick(&[10, 45, 55, 60]),
-            bursts: r.pick(&[0, 0, 0, 3]),
+            bursts: r.pick(&[0, 0, 3, 3]),
             first_id: match r.below(8) {
                 0 => 0,
                 1 => u32::MAX - r.below(40) as u32,
@@ -1008,9 +1013,31 @@ impl Style {
                 3 => r.number() as u32,
                 _ => 1 + r.below(100) as u32,
             },
-            calls: r.pick(&[20, 100, 300, 1000, 2500]),
+            calls: r.pick(&[20, 100, 100, 300, 1000]),
         }
     }
+}
+
+/// A time beside a whole number of periods after the last ageing: mostly few,
+/// now and then about as many as the credit lasts.
+fn periods_later(r: &mut Random, association: &Association) -> u64 {
+    let spent = |ageings: &u64| aged_credit(association.credit, *ageings) == 0;
+    let lasts = (0..).find(spent).expect("the credit is gone at last");
+    let periods = match r.below(10) {
+        0 => (lasts + r.below(3)).max(2) - 1,
+        1 => 1 + r.below(400),
+        2 => 1 + r.below(30),
+        _ => 1 + r.below(4),
+    };
+    association.aged + periods * AGEING_PERIOD + r.below(3) - 1
+}
+
+/// A time after months or years of silence.
+fn far_ahead(r: &mut Random, now: u64) -> u64 {
+    let last = TIME_LIMIT - 1;
+    let some = r.below(1 << 33);
+    let near_the_end = last - r.below(400);
+    r.pick(&[now + some, now + some / 1000, near_the_end, last])
 }
 
 fn lifetime(r: &mut Random) -> u32 {

@@ -75,6 +75,9 @@ impl Player {
                 let before = association.clone();
                 let result = association.tick(*time, notes);
                 self.history.observe(&before, association, &[]);
+                if result.is_ok() {
+                    self.history.ticked(&before, association, notes);
+                }
                 note_result(&result, "tick accepted", "tick refused", notes);
                 Answer::Tick(result)
             }

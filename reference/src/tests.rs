@@ -1,8 +1,8 @@
 //! Document 01's worked cases, the mistakes it warns of, order 1's bytes and
-//! round trips, and the form of the output.
+//! round trips, order 3's ageing, and the form of the output.
 
 use crate::announcement::{announce, bytes_to_write};
-use crate::association::{Association, Status};
+use crate::association::{Association, Status, CREDIT_LIMIT, TIME_LIMIT};
 use crate::census::{census_of, CASES};
 use crate::compose::{
     ack, behind_header, echo_request, echo_response, locator_set, packet, sections, seq, CheckText,
@@ -14,7 +14,7 @@ use crate::packet::{
     ACK, ESP_INFO, HIP_MAC, HIP_SIGNATURE, HOST_ID, LOCATOR_SET, SEQ,
 };
 use crate::print::hex;
-use crate::random;
+use crate::random::{self, Random};
 use crate::reasons::{Notes, Reasons};
 use crate::record::{
     understand, AnnouncementInputs, Call, Entry, MessageInputs, Sections, StartInputs,
@@ -134,6 +134,10 @@ fn credit(tracer: &Tracer) -> u64 {
     tracer.player.association.as_ref().unwrap().credit
 }
 
+fn last_ageing(tracer: &Tracer) -> u64 {
+    tracer.player.association.as_ref().unwrap().aged
+}
+
 fn status(tracer: &Tracer, slot: usize) -> Status {
     tracer.player.association.as_ref().unwrap().held[&slot].status
 }
@@ -194,17 +198,158 @@ fn ageing_takes_an_eighth_rounded_up() {
 }
 
 #[test]
-fn ageing_comes_after_five_seconds_and_once() {
+fn ageing_comes_after_five_seconds() {
     let mut tracer = begun();
     arrive(&mut tracer, 1000);
     tick(&mut tracer, 104);
     assert_eq!(credit(&tracer), 1000);
     tick(&mut tracer, 105);
     assert_eq!(credit(&tracer), 875);
+}
+
+/// Credit and last ageing after a tick so long after a start at 100.
+fn aged_after(credit_before: u64, passed: u64) -> (u64, u64) {
+    let mut tracer = begun();
+    arrive(&mut tracer, credit_before);
+    tick(&mut tracer, 100 + passed);
+    (credit(&tracer), last_ageing(&tracer))
+}
+
+#[test]
+fn a_tick_17_seconds_after_the_last_ageing_holds_three() {
     let mut tracer = begun();
     arrive(&mut tracer, 1000);
-    tick(&mut tracer, 117);
-    assert_eq!(credit(&tracer), 875);
+    for (time, credit_then, aged) in [(117, 669, 115), (119, 669, 115), (120, 585, 120)] {
+        tick(&mut tracer, time);
+        assert_eq!(credit(&tracer), credit_then);
+        assert_eq!(last_ageing(&tracer), aged);
+    }
+}
+
+#[test]
+fn each_whole_5_seconds_is_one_ageing() {
+    for (passed, credit, aged) in [
+        (0, 1000, 100),
+        (4, 1000, 100),
+        (5, 875, 105),
+        (6, 875, 105),
+        (9, 875, 105),
+        (10, 765, 110),
+        (11, 765, 110),
+        (14, 765, 110),
+        (15, 669, 115),
+        (16, 669, 115),
+    ] {
+        assert_eq!(aged_after(1000, passed), (credit, aged), "after {passed}");
+    }
+}
+
+#[test]
+fn each_ageing_is_rounded() {
+    // 49 * 1,001 / 64 is over 766.
+    assert_eq!(aged_after(1001, 10), (765, 110));
+}
+
+/// An association at the credit limit, started at this time.
+fn at_the_limit(time: u64) -> Tracer {
+    let mut tracer = Tracer::default();
+    tracer.call(&start_call(time, 1));
+    (0..17).for_each(|_| arrive(&mut tracer, 65_535));
+    assert_eq!(credit(&tracer), CREDIT_LIMIT);
+    tracer
+}
+
+#[test]
+fn the_93rd_ageing_from_the_limit_leaves_0() {
+    for (ageings, left) in [(91, 2), (92, 1), (93, 0), (94, 0)] {
+        for rest in 0..5 {
+            let mut tracer = at_the_limit(100);
+            tick(&mut tracer, 100 + 5 * ageings + rest);
+            assert_eq!(credit(&tracer), left);
+            assert_eq!(last_ageing(&tracer), 100 + 5 * ageings);
+        }
+    }
+    // The same by one tick for each ageing.
+    let mut tracer = at_the_limit(100);
+    for ageing in 1..=93 {
+        assert_ne!(credit(&tracer), 0);
+        tick(&mut tracer, 100 + 5 * ageing);
+    }
+    assert_eq!(credit(&tracer), 0);
+}
+
+#[test]
+fn a_tick_at_the_end_of_time_is_answered_at_once() {
+    let last = TIME_LIMIT - 1;
+    for (start, aged) in [
+        (0, last),
+        (1, last - 4),
+        (2, last - 3),
+        (3, last - 2),
+        (4, last - 1),
+        (5, last),
+    ] {
+        let mut tracer = at_the_limit(start);
+        tick(&mut tracer, last);
+        assert_eq!(credit(&tracer), 0);
+        assert_eq!(last_ageing(&tracer), aged);
+        // The rest is too short for one more.
+        arrive(&mut tracer, 1000);
+        tick(&mut tracer, last);
+        assert_eq!(credit(&tracer), 1000);
+    }
+}
+
+/// An association with some credit and last ageing, and a time to come, mostly
+/// within what the credit lasts.
+fn before_a_silence(r: &mut Random) -> (Association, u64) {
+    let mut association = begun().player.association.unwrap();
+    let most_credit = r.pick(&[10, 2000, CREDIT_LIMIT]);
+    let longest = r.pick(&[12, 60, 300, 3000]);
+    association.credit = r.below(most_credit + 1);
+    association.aged = r.below(1000);
+    association.time = association.aged + r.below(5);
+    let end = association.time + r.below(longest);
+    (association, end)
+}
+
+#[test]
+fn ticks_between_do_not_change_what_a_stretch_of_time_costs() {
+    let mut r = Random(1);
+    for _ in 0..2000 {
+        let (mut one, end) = before_a_silence(&mut r);
+        let mut several = one.clone();
+        one.tick(end, &mut Notes::default()).unwrap();
+        let most = 1 + r.below(40);
+        while several.time < end {
+            let time = end.min(several.time + r.below(most + 1));
+            several.tick(time, &mut Notes::default()).unwrap();
+        }
+        assert_eq!(several.credit, one.credit);
+        assert_eq!(several.aged, one.aged);
+    }
+}
+
+/// Second by second: every fifth takes an eighth, rounded up, off the credit.
+fn second_by_second(mut credit: u64, mut aged: u64, end: u64) -> (u64, u64) {
+    for second in aged..=end {
+        if second - aged == 5 {
+            credit -= credit.div_ceil(8);
+            aged = second;
+        }
+    }
+    (credit, aged)
+}
+
+#[test]
+fn ageing_is_what_it_is_second_by_second() {
+    let mut r = Random(2);
+    for _ in 0..2000 {
+        let (mut association, end) = before_a_silence(&mut r);
+        let expected = second_by_second(association.credit, association.aged, end);
+        association.tick(end, &mut Notes::default()).unwrap();
+        assert_eq!((association.credit, association.aged), expected);
+    }
 }
 
 #[test]
