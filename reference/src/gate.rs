@@ -67,7 +67,7 @@ pub fn trace() -> Vec<u8> {
     ageing_without_credit(&mut script);
     ageing_from_the_limit(&mut script);
     silence(&mut script);
-    silence_to_the_end_of_time(&mut script);
+    silence_up_to_the_time_limit(&mut script);
     expiry(&mut script);
     end_of_time(&mut script);
     opaque_lengths(&mut script);
@@ -1327,7 +1327,7 @@ fn silence(s: &mut Script) {
 }
 
 /// Silence up to the last second, in one tick and in two, and calls after it.
-fn silence_to_the_end_of_time(s: &mut Script) {
+fn silence_up_to_the_time_limit(s: &mut Script) {
     let last = TIME_LIMIT - 1;
     for begin in [0, 1, 3] {
         s.start_at(begin, u32::MAX);

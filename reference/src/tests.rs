@@ -279,7 +279,7 @@ fn the_93rd_ageing_from_the_limit_leaves_0() {
 }
 
 #[test]
-fn a_tick_at_the_end_of_time_is_answered_at_once() {
+fn a_tick_just_below_the_time_limit_is_answered_at_once() {
     let last = TIME_LIMIT - 1;
     for (start, aged) in [
         (0, last),

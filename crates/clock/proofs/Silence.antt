@@ -29,12 +29,12 @@ after-silence a time p h k l =
     let within = lt-leb timeLimit time k in
     rw (p, early, within, none)
 
--- a tick at 2^40 - 1 where the last ageing is at time 0: of its 219,902,325,555 ageings the 93rd leaves nothing, and the last is now
+-- a tick at 2^40 - 1, the last time that is accepted, where the last ageing is at time 0: of its 219,902,325,555 ageings the 93rd leaves nothing, and the last is now
 pub longest : (a : Association) → refusal0 a ≡ false → a .aged ≡ 0 →
-    tickOf a 1099511627775 ≡ accepted (withClock a 1099511627775 1099511627775 0 (expireAll 1099511627775 (a .slots)))
+    tickOf a (timeLimit - 1) ≡ accepted (withClock a (timeLimit - 1) (timeLimit - 1) 0 (expireAll (timeLimit - 1) (a .slots)))
 unfolding lastingWithin
 longest a p z =
     let s = sound a p in
     let t = s .time in
-    after-silence a 1099511627775 p (omega arith) (omega arith) (omega arith)
-    ∙ ap (λ (n : ℕ). accepted (withClock a 1099511627775 n 0 (expireAll 1099511627775 (a .slots)))) (omega arith)
+    after-silence a (timeLimit - 1) p (omega arith) (omega arith) (omega arith)
+    ∙ ap (λ (n : ℕ). accepted (withClock a (timeLimit - 1) n 0 (expireAll (timeLimit - 1) (a .slots)))) (omega arith)
