@@ -1,9 +1,8 @@
 -- What the definitions say of a slot whose holding is known. Assumes nothing.
 use mathlib.Core.Path.{_≡_, sym, ap, _∙_}
 use mathlib.Core.Bool.{Bool, true, false}
-use Prim.Native.Nat.{ℕ, _≤_, _<_}
+use Prim.Native.Nat.{ℕ}
 use lib.Dec.{eqb}
-use borrow.Author.Tests.{le-leb, lt-leb}
 use Rattle.address.specs.Rules.{sameAddress}
 use Rattle.slot.specs.declared.Check.{Check}
 use Rattle.slot.specs.declared.Status.{Status}
@@ -14,7 +13,7 @@ use Rattle.slot.specs.declared.Holding.the-variants.{Empty, Held}
 use Rattle.slot.specs.declared.Slot.{Slot}
 use Rattle.slot.specs.Found.{slotOf, withStatus, onHeld, onLocator, isNonce, heldAs}
 use Rattle.slot.specs.Clashes.{sameNonce, clash}
-use Rattle.slot.specs.Expiry.{expireLocator, expireSlot}
+use Rattle.slot.specs.Expiry.{isOver, expireLocator, expireSlot}
 
 pub nonces : (x y : Status) (k l : Check) → x ≡ Unverified k → y ≡ Unverified l → eqb (k .nonce) (l .nonce) ≡ sameNonce x y
 nonces x y k l p q = simp (p, q)
@@ -55,8 +54,8 @@ on-held change s l m p q = simp (p, q)
 pub on-kept : (change : Locator → Locator) (s : Slot) (l : Locator) → s .holding ≡ Held l → l ≡ change l → s ≡ onLocator change s
 on-kept change s l p q = ap slotWith (p ∙ ap Held q ∙ ap (onHeld change) (sym p))
 
-pub expire-early : (t : ℕ) (s : Slot) (l : Locator) → s .holding ≡ Held l → t < l .expiry → s ≡ expireSlot t s
-expire-early t s l p h = on-kept (expireLocator t) s l p (rw (lt-leb (l .expiry) t h))
+pub expire-early : (t : ℕ) (s : Slot) (l : Locator) (b : Bool) → s .holding ≡ Held l → b ≡ isOver t l → b ≡ false → s ≡ expireSlot t s
+expire-early t s l b p h e = on-kept (expireLocator t) s l p (rw (← h, e))
 
-pub expire-late : (t : ℕ) (s : Slot) (l m : Locator) → s .holding ≡ Held l → l .expiry ≤ t → m ≡ withStatus l Deprecated → slotOf m ≡ expireSlot t s
-expire-late t s l m p h q = on-held (expireLocator t) s l m p (q ∙ rw (le-leb (l .expiry) t h))
+pub expire-late : (t : ℕ) (s : Slot) (l m : Locator) (b : Bool) → s .holding ≡ Held l → b ≡ isOver t l → b ≡ true → m ≡ withStatus l Deprecated → slotOf m ≡ expireSlot t s
+expire-late t s l m b p h e q = on-held (expireLocator t) s l m p (q ∙ rw (← h, e))

@@ -4,7 +4,6 @@ use mathlib.Core.Bool.{Bool, true, false, cond}
 use mathlib.Core.Option.{Option, none, some}
 use mathlib.Core.Logic.{_⊎_, inl, inr}
 use Prim.Native.Nat.{ℕ}
-use lib.Dec.{leb}
 use Rattle.address.specs.declared.Address.{Address}
 use Rattle.address.specs.Rules.{sameAddress}
 use Rattle.slot.specs.declared.Status.{Status}
@@ -13,12 +12,12 @@ use Rattle.slot.specs.declared.Locator.{Locator}
 use Rattle.slot.specs.declared.Holding.{Holding}
 use Rattle.slot.specs.declared.Holding.the-variants.{Empty, Held}
 use Rattle.slot.specs.Found.{withStatus, statusHeld, isUnverified}
-use Rattle.slot.specs.Expiry.{expireLocator, expireHeld}
+use Rattle.slot.specs.Expiry.{isOver, expireLocator, expireHeld}
 use Rattle.slot.proofs.Settled.{Settles}
 
 -- a locator by its expiry keeps its address, and its status stays or is DEPRECATED
 pub expired-settles : (t : ℕ) → Settles (expireLocator t)
-expired-settles t = record { address = λ l. kept-address l (leb (l .expiry) t); status = λ l. kept-status l (leb (l .expiry) t) }
+expired-settles t = record { address = λ l. kept-address l (isOver t l); status = λ l. kept-status l (isOver t l) }
   where
     kept-address : (l : Locator) (late : Bool) → cond late (withStatus l Deprecated) l .address ≡ l .address
     kept-address l true = refl
@@ -40,7 +39,7 @@ kept (some s) = inl refl
 
 pub expired-status : (x : Address) (t : ℕ) (h : Holding) → KeptOrDeprecated (statusHeld x h) (statusHeld x (expireHeld t h))
 expired-status x t Empty = refl
-expired-status x t (Held l) = go (leb (l .expiry) t) (sameAddress x (l .address)) refl
+expired-status x t (Held l) = go (isOver t l) (sameAddress x (l .address)) refl
   where
     go : (late here : Bool) → sameAddress x (l .address) ≡ here → KeptOrDeprecated (cond here (some (l .status)) none) (statusHeld x (Held (cond late (withStatus l Deprecated) l)))
     go true true e = inr (rw e)

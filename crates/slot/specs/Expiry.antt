@@ -1,6 +1,6 @@
 -- The expiry of a locator: "Locators with time at or past expiry turn DEPRECATED."
 use Prim.Native.Nat.{ℕ, _+_}
-use mathlib.Core.Bool.{cond}
+use mathlib.Core.Bool.{Bool, cond}
 use lib.Dec.{leb}
 use Rattle.slot.specs.Found.{withStatus, onHeld, onLocator}
 use Rattle.slot.specs.declared.Status.the-variants.{Deprecated}
@@ -12,9 +12,13 @@ use Rattle.slot.specs.declared.Slot.{Slot}
 abbrev pub expiryAt : (time lifetime : ℕ) → ℕ
 expiryAt time lifetime = time + lifetime
 
+-- a locator is over: "time at or past expiry"
+abbrev pub isOver : (time : ℕ) → Locator → Bool
+isOver time l = leb (l .expiry) time
+
 -- a locator at a time
 abbrev pub expireLocator : (time : ℕ) → Locator → Locator
-expireLocator time l = cond (leb (l .expiry) time) (withStatus l Deprecated) l
+expireLocator time l = cond (isOver time l) (withStatus l Deprecated) l
 
 -- an empty slot stays empty
 abbrev pub expireHeld : (time : ℕ) → Holding → Holding

@@ -3,7 +3,7 @@ use address::Address;
 ghost use mathlib.Core.Path.{_≡_};
 ghost use Rattle.slot.specs.Found.{withStatus, isDeprecated, isNonce, heldAs};
 ghost use Rattle.slot.specs.Clashes.{sameNonce, clash};
-ghost use Rattle.slot.specs.Expiry.{expireSlot};
+ghost use Rattle.slot.specs.Expiry.{isOver, expireSlot};
 
 // The slots of an association.
 pub const SLOT_COUNT: usize = 8;
@@ -119,7 +119,14 @@ pub fn clashes(x: Slot, y: Slot) -> bool
     }
 }
 
-// The slot at a time: a locator at or past its expiry is DEPRECATED.
+// The locator is over at the time: at or past its expiry.
+pub fn is_over(l: Locator, time: u64) -> bool
+    ensures { λ r. ⌜ r ≡ isOver time l ⌝ }
+{
+    l.expiry <= time
+}
+
+// The slot at a time: a locator that is over is DEPRECATED.
 pub fn expire(slot: Slot, time: u64) -> Slot
     ensures { λ r. ⌜ r ≡ expireSlot time slot ⌝ }
 {
@@ -127,7 +134,7 @@ pub fn expire(slot: Slot, time: u64) -> Slot
     match holding {
         Holding::Empty => slot,
         Holding::Held(l) => {
-            if l.expiry <= time {
+            if is_over(l, time) {
                 Slot {
                     holding: Holding::Held(with_status(l, Status::Deprecated)),
                 }

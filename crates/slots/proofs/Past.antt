@@ -1,17 +1,16 @@
--- A slot whose locator is not past its expiry is as it was. Assumes nothing.
+-- A slot whose locator is not over is as it was. Assumes nothing.
 use Prim.Native.Nat.{ℕ}
 use mathlib.Core.Path.{_≡_, refl, sym, _∙_}
 use mathlib.Core.Bool.{Bool, false}
-use lib.Dec.{leb}
 use Rattle.slot.specs.declared.Locator.{Locator}
 use Rattle.slot.specs.declared.Holding.{Holding}
 use Rattle.slot.specs.declared.Holding.the-variants.{Empty, Held}
 use Rattle.slot.specs.declared.Slot.{Slot}
-use Rattle.slot.specs.Expiry.{expireHeld, expireSlot}
+use Rattle.slot.specs.Expiry.{isOver, expireHeld, expireSlot}
 use Rattle.slots.specs.Past.{pastHeld, past}
 
-pub past-held : (time : ℕ) (s : Slot) (l : Locator) → s .holding ≡ Held l → leb (l .expiry) time ≡ past time s
-past-held time s l p = simp p
+pub past-held : (time : ℕ) (s : Slot) (l : Locator) (b : Bool) → s .holding ≡ Held l → b ≡ isOver time l → b ≡ past time s
+past-held time s l b p q = q ∙ simp p
 
 kept : (time : ℕ) (h : Holding) → pastHeld time h ≡ false → h ≡ expireHeld time h
 kept time Empty e = refl

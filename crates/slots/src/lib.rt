@@ -28,18 +28,18 @@ pub fn any_clash(slots: [Slot; SLOT_COUNT]) -> bool
     false
 }
 
-// The slot holds a locator at or past its expiry.
+// The slot holds a locator that is over.
 fn is_past(slot: Slot, time: u64) -> bool
     ensures { λ r. ⌜ r ≡ past time slot ⌝ }
 {
     let holding = slot.holding;
     match holding {
         Holding::Empty => false,
-        Holding::Held(l) => l.expiry <= time,
+        Holding::Held(l) => slot::is_over(l, time),
     }
 }
 
-// The slots at a time: locators at or past their expiry are DEPRECATED. The other slots are not written.
+// The slots at a time: locators that are over are DEPRECATED. The other slots are not written.
 pub fn expire_all(slots: [Slot; SLOT_COUNT], time: u64) -> [Slot; SLOT_COUNT]
     ensures { λ r. ⌜ r ≡ expireAll time slots ⌝ }
 {

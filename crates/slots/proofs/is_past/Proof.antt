@@ -10,6 +10,9 @@ enum-told c = search needs
 enum-known-holding : tie.Need-enum-known-holding
 enum-known-holding c = search needs
 
+is-over-requires : tie.Need-is-over-requires
+is-over-requires c κs = tt
+
 returns : tie.Need-returns
 returns c = search needs
 
@@ -17,4 +20,4 @@ returns-2 : tie.Need-returns-2
 returns-2 c = search past-held
 
 pub is-past-spec : {M : Type 1} → statement M
-is-past-spec = tie.close (tie.spec enum-told enum-known-holding returns returns-2)
+is-past-spec = tie.close (tie.spec enum-told enum-known-holding is-over-requires returns returns-2)
