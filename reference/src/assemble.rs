@@ -8,7 +8,7 @@
 //! message MARK BUFFER NONCE
 //! arrival SIZE
 //! send SIZE
-//! tick TIME
+//! tick TIME BUFFER
 //! announcement BUFFER INBOUND KEYMAT
 //! ```
 //!
@@ -110,7 +110,7 @@ fn read_call(words: &[&str]) -> Result<Record, String> {
         ["message", mark, buffer, nonce] => read_message(mark, buffer, nonce),
         ["arrival", size] => Ok(Record::plain(vec![2, number(size)?])),
         ["send", size] => Ok(Record::plain(vec![3, number(size)?])),
-        ["tick", time] => Ok(Record::plain(vec![4, number(time)?])),
+        ["tick", time, buffer] => Ok(Record::plain(vec![4, number(time)?, number(buffer)?])),
         ["announcement", buffer, inbound, keymat] => Ok(Record::plain(vec![
             ANNOUNCEMENT,
             number(buffer)?,
@@ -249,11 +249,11 @@ mod tests {
 
     #[test]
     fn plain_calls() {
-        let text = "arrival 1500 # bytes\nsend 0x10\r\ntick 1_000";
+        let text = "arrival 1500 # bytes\nsend 0x10\r\ntick 1_000 320";
         let want = [
             record(&[2, 1500], &[], &[]),
             record(&[3, 16], &[], &[]),
-            record(&[4, 1000], &[], &[]),
+            record(&[4, 1000, 320], &[], &[]),
         ];
         assert_eq!(assemble(text), Ok(want.concat()));
     }
@@ -261,9 +261,10 @@ mod tests {
     #[test]
     fn exact_bytes_of_a_tick() {
         let want = vec![
-            0, 16, 0, 0, 0, 0, 0, 0, 0, 4, 0, 0, 0, 0, 0, 0, 1, 2, 0, 0, 0, 0,
+            0, 24, 0, 0, 0, 0, 0, 0, 0, 4, 0, 0, 0, 0, 0, 0, 1, 2, 0, 0, 0, 0, 0, 0, 1, 64, 0, 0,
+            0, 0,
         ];
-        assert_eq!(assemble("tick 258"), Ok(want));
+        assert_eq!(assemble("tick 258 320"), Ok(want));
     }
 
     #[test]
@@ -365,10 +366,10 @@ mod tests {
     fn faults_name_the_line_and_the_reason() {
         assert_eq!(fault("\n# note\nleap 3\n"), "line 3: unknown call `leap`");
         assert_eq!(fault("send"), "line 1: wrong number of words after `send`");
-        assert_eq!(
-            fault("tick 1 2"),
-            "line 1: wrong number of words after `tick`"
-        );
+        for text in ["tick 1", "tick 1 2 3"] {
+            assert_eq!(fault(text), "line 1: wrong number of words after `tick`");
+        }
+        assert_eq!(fault("tick 1 x"), "line 1: `x` is not a number");
         assert_eq!(fault("send x"), "line 1: `x` is not a number");
         assert_eq!(
             fault("start 1 2 3 4 host"),

@@ -1,16 +1,15 @@
-//! An association, and the calls start, arrival, send and tick.
+//! An association, and the calls start, arrival and send.
 
 use std::collections::{BTreeMap, BTreeSet};
 
 use crate::address::{not_legal, NotLegal};
+use crate::own_check::{OwnCheck, MOMENTS};
 use crate::reasons::{Notes, Reasons};
 use crate::record::StartInputs;
 
 pub const TIME_LIMIT: u64 = 1 << 40;
 pub const CREDIT_LIMIT: u64 = 1_048_576;
 pub const LARGEST_SIZE: u64 = 65_535;
-/// "Each whole 5 seconds is one ageing".
-pub const AGEING_PERIOD: u64 = 5;
 pub const SLOTS: usize = 8;
 /// Own Update IDs are 32-bit numbers; the next one may stand one past the last.
 pub const OWN_ID_LIMIT: u64 = 1 << 32;
@@ -41,12 +40,12 @@ pub struct Locator {
     pub status: Status,
 }
 
-/// An UNVERIFIED locator carries its check: nonce and Update ID.
+/// An UNVERIFIED locator carries its check.
 #[derive(Clone, Copy, Debug, PartialEq, Eq)]
 pub enum Status {
     Active,
     Deprecated,
-    Unverified { nonce: u64, id: u64 },
+    Unverified(OwnCheck),
 }
 
 impl Locator {
@@ -65,15 +64,20 @@ impl Locator {
     }
 
     pub fn is_unverified(&self) -> bool {
-        self.nonce().is_some()
+        self.check().is_some()
+    }
+
+    /// The check under way of an UNVERIFIED locator.
+    pub fn check(&self) -> Option<OwnCheck> {
+        match self.status {
+            Status::Unverified(check) => Some(check),
+            Status::Active | Status::Deprecated => None,
+        }
     }
 
     /// The outstanding nonce of an UNVERIFIED locator.
     pub fn nonce(&self) -> Option<u64> {
-        match self.status {
-            Status::Unverified { nonce, .. } => Some(nonce),
-            Status::Active | Status::Deprecated => None,
-        }
+        self.check().map(|check| check.nonce)
     }
 }
 
@@ -143,6 +147,20 @@ impl Association {
             || self.preferred.is_some_and(|slot| slot >= SLOTS)
             || addresses.len() < self.held.len()
             || nonces.len() < self.outstanding().len()
+            || self
+                .checks()
+                .iter()
+                .any(|check| self.is_unsound_check(check))
+    }
+
+    /// "an issue time after the stored time or a count over 4"
+    fn is_unsound_check(&self, check: &OwnCheck) -> bool {
+        check.issued > self.time || check.resends > MOMENTS.len()
+    }
+
+    /// All checks under way, in slot order.
+    pub fn checks(&self) -> Vec<OwnCheck> {
+        self.held.values().filter_map(Locator::check).collect()
     }
 
     /// The nonces of all checks under way, in slot order.
@@ -260,136 +278,5 @@ impl Association {
             notes.add("send granted to UNVERIFIED");
             notes.add_if(self.credit == size + 1, "send: credit one above");
         }
-    }
-
-    /// "Tick stores the time."
-    pub fn tick(&mut self, time: u64, notes: &mut Notes) -> Result<(), u8> {
-        let mut reasons = Reasons::default();
-        reasons.add_if(self.is_unsound(), 0, "refusal 0");
-        let early = time < self.time;
-        reasons.add_if(early, 12, "refusal 12: before the stored time");
-        reasons.add_if(time >= TIME_LIMIT, 12, "refusal 12: 2^40 or more");
-        if let Some(number) = reasons.first() {
-            reasons.note_clause(notes);
-            notes.add_if(time == TIME_LIMIT, "refusal 12: exactly 2^40");
-            return Err(number);
-        }
-        notes.add_if(time == self.time, "tick: equal time");
-        notes.add_if(time == TIME_LIMIT - 1, "tick: time 2^40 - 1");
-        self.time = time;
-        self.expire(notes);
-        self.age(notes);
-        Ok(())
-    }
-
-    /// "Locators with time at or past expiry turn DEPRECATED."
-    fn expire(&mut self, notes: &mut Notes) {
-        let time = self.time;
-        let mut expired = 0;
-        for locator in self.held.values_mut().filter(|l| !l.is_deprecated()) {
-            notes.add_if(time + 1 == locator.expiry, "tick: one before expiry");
-            if time < locator.expiry {
-                continue;
-            }
-            notes.add_if(time == locator.expiry, "tick: exactly at expiry");
-            notes.add_if(time > locator.expiry, "tick: past expiry");
-            notes.add_if(locator.is_active(), "tick: ACTIVE expires");
-            notes.add_if(locator.is_unverified(), "tick: UNVERIFIED expires");
-            locator.status = Status::Deprecated;
-            expired += 1;
-        }
-        notes.add_if(expired > 1, "tick: several expire at once");
-    }
-
-    /// "RFC 8046 ages at a constant period, so a tick 17 seconds after the last
-    /// ageing holds three ageings: 1,000 becomes 669, and the last ageing stands
-    /// at 15 seconds, leaving two towards the next."
-    fn age(&mut self, notes: &mut Notes) {
-        let passed = self.time - self.aged;
-        let ageings = passed / AGEING_PERIOD;
-        let left = aged_credit(self.credit, ageings);
-        if left > 0 {
-            notes.add(number_of_ageings(passed));
-        }
-        self.note_loss(ageings, left, notes);
-        self.note_long_silence(notes);
-        self.credit = left;
-        self.aged += ageings * AGEING_PERIOD;
-    }
-
-    /// Notes what so many ageings leave of the credit.
-    fn note_loss(&self, ageings: u64, left: u64, notes: &mut Notes) {
-        let credit = self.credit;
-        if credit == 0 {
-            // Only the last ageing shows these.
-            notes.add_if(ageings == 1, "tick: credit 0 ages once");
-            notes.add_if(ageings > 1, "tick: credit 0 ages several times");
-            return;
-        }
-        let once = rounded_once(credit, ageings);
-        let other = once.is_some_and(|once| once != left);
-        notes.add_if(other, "tick: rounding once would leave more");
-        let full = credit == CREDIT_LIMIT;
-        let lasts = full && ageings == 92 && left > 0;
-        notes.add_if(lasts, "tick: 92 ageings from the limit leave credit");
-        let spent = full && ageings == 93 && left == 0;
-        notes.add_if(spent, "tick: 93 ageings from the limit leave 0");
-        if left > 0 {
-            return;
-        }
-        notes.add(match (ageings, aged_credit(credit, ageings - 1)) {
-            (_, 0) => "tick: more ageings than the credit lasts",
-            (1, _) => "tick: credit 1 ages to 0",
-            (_, _) => "tick: the last of several ageings leaves 0",
-        });
-    }
-
-    /// Notes silence of years, told by the time of the last ageing.
-    fn note_long_silence(&self, notes: &mut Notes) {
-        let passed = self.time - self.aged;
-        let whole = self.credit > 0 && passed == TIME_LIMIT - 1;
-        notes.add_if(whole, "tick: aged from time 0 to 2^40 - 1");
-        let rest = !passed.is_multiple_of(AGEING_PERIOD);
-        let many = passed / AGEING_PERIOD > u64::from(u32::MAX);
-        notes.add_if(many && rest, "tick: over 2^32 ageings with a rest");
-    }
-}
-
-/// Credit after so many ageings, one after the other: each turns c into
-/// floor(7c / 8). From the credit limit the 93rd leaves 0, and 0 stays 0.
-pub fn aged_credit(credit: u64, ageings: u64) -> u64 {
-    let mut left = credit;
-    for _ in 0..ageings {
-        if left == 0 {
-            break;
-        }
-        left = 7 * left / 8;
-    }
-    left
-}
-
-/// What 7^k c / 8^k rounded once would be, where 128 bits hold it; only to see
-/// what the census asks about.
-fn rounded_once(credit: u64, ageings: u64) -> Option<u64> {
-    let ageings = u32::try_from(ageings).ok()?;
-    let product = 7_u128.checked_pow(ageings)?.checked_mul(credit.into())?;
-    let quotient = product.checked_shr(3 * ageings)?;
-    u64::try_from(quotient).ok()
-}
-
-/// How many ageings so many seconds hold, and whether a rest is left.
-fn number_of_ageings(passed: u64) -> &'static str {
-    match (passed / AGEING_PERIOD, passed % AGEING_PERIOD) {
-        (0, 4) => "tick: not aged after 4 seconds",
-        (0, _) => "tick: not aged after 0 to 3 seconds",
-        (1, 0) => "tick: aged once after 5 seconds",
-        (1, 4) => "tick: aged once after 9 seconds",
-        (1, _) => "tick: aged once after 6 to 8 seconds",
-        (2, 0) => "tick: aged twice after 10 seconds",
-        (2, _) => "tick: aged twice with a rest",
-        (3, 0) => "tick: aged three times after 15 seconds",
-        (3, _) => "tick: aged three times with a rest",
-        (_, 0) => "tick: aged more often without a rest",
-        (_, _) => "tick: aged more often with a rest",
     }
 }

@@ -1,9 +1,9 @@
 //! The answer to a Check, and the cases of Checks.
 
 use crate::association::Association;
-use crate::message::{acknowledgement, judge_nonces, slot_of_echo, Answer};
+use crate::message::{judge_nonces, slot_of_echo, Answer};
 use crate::packet::{
-    u16_at, u32_at, write_parameter, Check, Parameter, ACK, ECHO_REQUEST_SIGNED,
+    acknowledgement, u16_at, u32_at, write_parameter, Check, Parameter, ACK, ECHO_REQUEST_SIGNED,
     ECHO_RESPONSE_SIGNED, ESP_INFO, HIP_MAC, HIP_SIGNATURE, HOST_ID, OPAQUE_LIMIT,
 };
 use crate::reasons::{Notes, Reasons};

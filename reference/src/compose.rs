@@ -172,7 +172,7 @@ pub fn record_of(call: &Call) -> Sections {
         }) => sections(&[1, u64::from(*authentic), *buffer], packet, nonces),
         Call::Arrival { size } => sections(&[2, *size], &[], &[]),
         Call::Send { size } => sections(&[3, *size], &[], &[]),
-        Call::Tick { time } => sections(&[4, *time], &[], &[]),
+        Call::Tick { time, buffer } => sections(&[4, *time, *buffer], &[], &[]),
         Call::Announcement(inputs) => announcement_record(inputs),
     }
 }

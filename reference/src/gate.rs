@@ -1,8 +1,9 @@
 //! The trace that meets every case of the census: short runs of calls that lead
 //! to each case, then random calls.
 
+use crate::ageing::AGEING_PERIOD;
 use crate::announcement::bytes_to_write;
-use crate::association::{Association, AGEING_PERIOD, CREDIT_LIMIT, LARGEST_SIZE, TIME_LIMIT};
+use crate::association::{Association, CREDIT_LIMIT, LARGEST_SIZE, TIME_LIMIT};
 use crate::compose::{
     ack, echo_request, echo_response, esp_info, locator, locator_set, packet, sections, seq,
     set_header_length, CheckText, MoveText, Tracer, Written,
@@ -12,6 +13,7 @@ use crate::packet::{
 };
 use crate::random::{address, write_trace, NOT_LEGAL};
 use crate::record::{AnnouncementInputs, Call, Entry, MessageInputs, Sections, StartInputs};
+use crate::tick::SMALLEST_BUFFER;
 
 /// Seeds and lengths of the random parts.
 const RANDOM_PARTS: [(u64, u64); 6] = [
@@ -82,6 +84,19 @@ pub fn trace() -> Vec<u8> {
     faulty_lists(&mut script);
     refused_announcements(&mut script);
     announcements_between(&mut script);
+    buffers_of_ticks(&mut script);
+    seconds_after_issue(&mut script);
+    long_after_issue(&mut script);
+    resends_at_the_ends_of_time(&mut script);
+    answers_between_resends(&mut script);
+    kept_checks(&mut script);
+    announcements_before_resends(&mut script);
+    expiry_of_checks(&mut script);
+    checks_given_up(&mut script);
+    numbers_of_resends(&mut script);
+    slots_between(&mut script);
+    resends_after_a_new_spi(&mut script);
+    checks_that_are_gone(&mut script);
     let mut bytes = script.tracer.bytes;
     for (seed, calls) in RANDOM_PARTS {
         write_trace(seed, calls, &mut bytes).expect("a vector takes all bytes");
@@ -122,6 +137,18 @@ fn with_traffic(traffic: u8, mut set: Vec<Listed>) -> Vec<Listed> {
         one.traffic = traffic;
     }
     set
+}
+
+fn lasting(lifetime: u32, mut set: Vec<Listed>) -> Vec<Listed> {
+    for one in &mut set {
+        one.lifetime = lifetime;
+    }
+    set
+}
+
+/// A set whose lifetimes end long after its checks are given up.
+fn long_set(numbers: &[u8]) -> Vec<Listed> {
+    lasting(100_000, set_of(numbers))
 }
 
 /// A type 0 entry of our list.
@@ -187,6 +214,13 @@ impl Script {
         self.list(set_of(numbers));
     }
 
+    /// A new association at time 100 with these addresses for a long time, all
+    /// UNVERIFIED but address 1. The checks are issued at 100.
+    fn start_waiting(&mut self, numbers: &[u8]) {
+        self.start_at(100, 100_000);
+        self.list(long_set(numbers));
+    }
+
     fn arrive(&mut self, size: u64) {
         self.call(Call::Arrival { size });
     }
@@ -202,8 +236,13 @@ impl Script {
         self.call(Call::Send { size });
     }
 
+    /// A tick with a buffer that is just long enough.
     fn tick(&mut self, time: u64) {
-        self.call(Call::Tick { time });
+        self.tick_with(time, SMALLEST_BUFFER);
+    }
+
+    fn tick_with(&mut self, time: u64, buffer: u64) {
+        self.call(Call::Tick { time, buffer });
     }
 
     /// Eight nonces that were not offered before.
@@ -322,9 +361,12 @@ fn before_a_start(s: &mut Script) {
     s.record(sections(&[5], &[], &[]));
     s.record(sections(&[5, 256, 1, 0], &[], &[]));
     s.record(sections(&[5, 256, 0, 0, 60, 1, 1, 0], &number(1), &[]));
+    s.record(sections(&[4, 100], &[], &[]));
+    s.record(sections(&[4, 100, 65_536], &[], &[]));
     s.arrive(1);
     s.send(1);
     s.tick(100);
+    s.tick_with(100, 0);
     s.packet(packet(&[]));
     s.arrive(0);
     s.send(0);
@@ -384,17 +426,40 @@ fn malformed_records(s: &mut Script) {
         record.nonces.truncate(length);
         s.record(record);
     }
-    for call in [2, 3, 4] {
-        s.record(sections(&[call, 200], &[0], &[]));
-        s.record(sections(&[call, 200], &[], &[0]));
-        s.record(sections(&[call, 200], &[0], &[0]));
+    for numbers in [&[2, 200][..], &[3, 200], &[4, 200, 320], &[4, 200]] {
+        s.record(sections(numbers, &[0], &[]));
+        s.record(sections(numbers, &[], &[0]));
+        s.record(sections(numbers, &[0], &[0]));
     }
+    malformed_ticks(s);
     s.record(Sections {
         numbers: vec![0; 65_535],
         bytes: vec![1; 65_535],
         nonces: vec![2; 65_535],
     });
     s.record(sections(&[1, 1, 384], &good, &nonces));
+}
+
+/// A tick without its buffer, with a number too many, and with buffers that are
+/// too long; the longest that fits is accepted.
+fn malformed_ticks(s: &mut Script) {
+    for numbers in [
+        &[4, 100][..],
+        &[4, 320],
+        &[4, 100, 320, 0],
+        &[4, 100, 320, 320],
+    ] {
+        s.record(sections(numbers, &[], &[]));
+    }
+    for buffer in [65_535, 65_536, 65_537, 65_856, (1 << 32) + 320, u64::MAX] {
+        s.record(sections(&[4, 100, buffer], &[], &[]));
+    }
+    s.record(sections(&[4, 100, 65_536], &[0], &[]));
+    for length in [17, 23, 25] {
+        let mut record = sections(&[4, 100, 320, 0], &[], &[]);
+        record.numbers.truncate(length);
+        s.record(record);
+    }
 }
 
 /// Announcements in which something does not fit.
@@ -765,10 +830,11 @@ fn late_echoes(s: &mut Script) {
     let fourth = s.nonce_of(2);
     s.echo(fourth);
     // Retired by expiry, then listed again.
-    s.start_with(&[1, 2]);
+    s.start();
+    s.list(lasting(10, set_of(&[1, 2])));
     let second = s.nonce_of(1);
-    s.tick(159);
-    s.tick(160);
+    s.tick(109);
+    s.tick(110);
     s.echo(second);
     s.list(set_of(&[1, 2]));
     s.echo(second);
@@ -1303,16 +1369,18 @@ fn ageing_from_the_limit(s: &mut Script) {
     }
 }
 
-/// What may be sent to an UNVERIFIED address before and after a silence.
+/// What may be sent to an UNVERIFIED address before and after a silence. Where
+/// the check is given up meanwhile, the address is listed again.
 fn silence(s: &mut Script) {
     for passed in [4, 5, 10, 17, 60, 300, 1 << 20] {
         s.start();
-        let mut set = set_of(&[2]);
-        set[0].lifetime = u32::MAX;
-        s.list(set);
+        let set = lasting(u32::MAX, set_of(&[2]));
+        s.list(set.clone());
         s.arrive(2000);
         s.send(999);
         s.tick(100 + passed);
+        s.send(1);
+        s.list(set.clone());
         // What could be sent before, what is left, and one less.
         let credit = s.association().credit;
         s.send(1000);
@@ -1321,6 +1389,7 @@ fn silence(s: &mut Script) {
         s.arrive(1000);
         s.send(500);
         s.tick(110 + passed);
+        s.list(set);
         s.send(500);
         s.send(300);
     }
@@ -1814,4 +1883,389 @@ fn announcements_between(s: &mut Script) {
     s.announce(list_of(&[9]), |_| {});
     s.start();
     s.list(set_of(&[2]));
+}
+
+/// Buffers of ticks at which a resend, an ageing, the end of a check or an
+/// expiry is due, and of ticks that are refused anyway.
+fn buffers_of_ticks(s: &mut Script) {
+    for buffer in [0, 40, 79, 80, 319, 320, 321, 65_535] {
+        s.start_waiting(&[1, 2, 3]);
+        s.arrive(1000);
+        for time in [100, 101, 101, 99, TIME_LIMIT, u64::MAX, 105, 116, 100_100] {
+            s.tick_with(time, buffer);
+        }
+        // What a refused tick left to be done is done now.
+        s.tick(116);
+    }
+    // Eight resends fill the shortest buffer.
+    s.start_at(100, 60);
+    s.list(long_set(&[2, 3, 4, 5, 6, 7, 8, 9]));
+    for buffer in [0, 280, 319, 320, 320] {
+        s.tick_with(101, buffer);
+    }
+    s.tick_with(102, 65_535);
+    // Refused ticks before a moment, in it and after it.
+    s.start_waiting(&[1, 2]);
+    for time in [100, 101, 102, 103, 104, 108, 115] {
+        s.tick_with(time, 319);
+        s.tick_with(99, 320);
+        s.tick_with(time, 320);
+    }
+    s.tick_with(116, 319);
+    let nonce = s.nonce_of(1);
+    s.echo(nonce);
+    s.tick(116);
+}
+
+/// Seconds after issue beside the moments of resending and the end.
+const AGES: [u64; 12] = [0, 1, 2, 3, 4, 5, 7, 8, 9, 15, 16, 17];
+
+/// Ticks at each second, then at each two of the seconds above.
+fn seconds_after_issue(s: &mut Script) {
+    s.start_waiting(&[1, 2]);
+    for age in 0..=18 {
+        s.tick(100 + age);
+    }
+    s.start_waiting(&[1, 2]);
+    for age in AGES {
+        s.tick(100 + age);
+        s.tick(100 + age);
+    }
+    for (place, first) in AGES.iter().enumerate() {
+        for second in &AGES[place..] {
+            s.start_waiting(&[1, 2]);
+            s.tick(100 + first);
+            s.tick(100 + second);
+        }
+    }
+}
+
+/// Checks that no tick met in time. As 8 or 16 bits some ages would be short.
+fn long_after_issue(s: &mut Script) {
+    for age in [
+        18, 20, 24, 31, 32, 48, 255, 256, 257, 260, 264, 271, 272, 65_535, 65_536, 65_537, 65_544,
+        65_551, 65_552, 99_999, 100_000,
+    ] {
+        s.start_waiting(&[1, 2]);
+        let nonce = s.nonce_of(1);
+        s.tick(100 + age);
+        s.echo(nonce);
+    }
+    // The same after an early resend.
+    for age in [16, 18, 256 + 8, 65_536 + 8] {
+        s.start_waiting(&[1, 2]);
+        s.tick(101);
+        s.tick(100 + age);
+    }
+}
+
+/// Checks issued at the first second, about 2^32, and up to the last second.
+fn resends_at_the_ends_of_time(s: &mut Script) {
+    let last = TIME_LIMIT - 1;
+    for begin in [0, (1 << 32) - 5, last - 16, last - 8, last - 1] {
+        for ages in [&[1, 2, 4, 8, 15, 16][..], &[3], &[16]] {
+            s.start_at(begin, u32::MAX);
+            s.list(lasting(u32::MAX, set_of(&[1, 2])));
+            s.tick(begin);
+            for age in ages {
+                s.tick(begin + age);
+            }
+        }
+    }
+}
+
+/// One of two checks is answered between resends: the other goes on.
+fn answers_between_resends(s: &mut Script) {
+    for age in [0, 1, 2, 3, 4, 7, 8, 15] {
+        for in_a_move in [false, true] {
+            s.start_waiting(&[1, 2, 3]);
+            s.tick(100 + age);
+            let nonce = s.nonce_of(1);
+            if in_a_move {
+                s.changed(long_set(&[1, 2, 3]), |text| {
+                    text.echo = Some(nonce.to_be_bytes().to_vec());
+                });
+            } else {
+                s.echo(nonce);
+            }
+            s.echo(nonce);
+            for later in [1, 2, 4, 8, 15, 16] {
+                if later > age {
+                    s.tick(100 + later);
+                }
+            }
+        }
+    }
+    // Answered, retired and listed again: a new check with a new Update ID.
+    s.start_waiting(&[1, 2]);
+    s.tick(102);
+    let nonce = s.nonce_of(1);
+    s.echo(nonce);
+    s.list(long_set(&[1]));
+    s.list(long_set(&[1, 2]));
+    for time in [103, 104, 106, 108, 116, 117, 118] {
+        s.tick(time);
+    }
+}
+
+/// Moves that list the address of a check under way: it keeps its issue time and
+/// its count.
+fn kept_checks(s: &mut Script) {
+    for kept in [0, 1, 3, 4, 8, 15] {
+        for next in AGES.into_iter().filter(|next| *next >= kept) {
+            s.start_waiting(&[1, 2]);
+            s.tick(100 + kept);
+            s.list(with_traffic(2, lasting(200_000, set_of(&[2, 1]))));
+            s.tick(100 + next);
+        }
+    }
+    // Kept at every second.
+    s.start_waiting(&[1, 2, 3]);
+    for time in 100..=117 {
+        s.list(long_set(&[1, 2, 3]));
+        s.tick(time);
+        s.list(long_set(&[3, 2, 1]));
+    }
+    // A lifetime that ends before the check does, and one that outlasts the first.
+    for (first, second) in [(3, 100), (100, 1), (100, 2), (100, 13), (100, 14), (15, 14)] {
+        s.start();
+        s.list(lasting(first, set_of(&[1, 2])));
+        s.tick(102);
+        s.list(lasting(second, set_of(&[1, 2])));
+        for time in [103, 104, 108, 114, 115, 116] {
+            s.tick(time);
+        }
+    }
+    // A Repeated Move, a Check and messages that are refused keep it too.
+    s.start_waiting(&[1, 2]);
+    s.tick(102);
+    s.changed(long_set(&[1]), |text| text.update_id = 0);
+    s.check(opaque(8), |_| {});
+    s.changed(long_set(&[1]), |text| text.old_spi += 1);
+    s.echo(u64::MAX);
+    for time in [103, 104, 108, 116] {
+        s.tick(time);
+    }
+}
+
+/// A resend shows the inbound SPI now held, and its first Update ID.
+fn announcements_before_resends(s: &mut Script) {
+    for when in [0, 1, 2, 4, 7, 8] {
+        s.start_waiting(&[1, 2]);
+        for age in [0, 1, 2, 4, 7, 8, 16] {
+            s.tick(100 + age);
+            if age == when {
+                s.announce(list_of(&[9]), |inputs| inputs.inbound = 0x5001);
+            }
+        }
+    }
+    // Another at each moment, then the first again.
+    s.start_waiting(&[1, 2]);
+    for (age, inbound) in [(0, 1), (1, u32::MAX), (2, 0x5001), (4, 0x1001), (8, 7)] {
+        s.tick(100 + age);
+        s.announce(list_of(&[9]), |inputs| inputs.inbound = inbound);
+    }
+    s.tick(115);
+    s.tick(116);
+    // Announcements of the same SPI, and refused ones.
+    s.start_waiting(&[1, 2]);
+    for inbound in [0x1001, 0] {
+        s.announce(list_of(&[9]), |inputs| inputs.inbound = inbound);
+    }
+    s.announce(list_of(&[9]), |inputs| {
+        inputs.inbound = 0x5001;
+        inputs.buffer = 0;
+    });
+    s.tick(101);
+    // Checks of before and after an announcement in one tick.
+    s.announce(list_of(&[9]), |inputs| inputs.inbound = 0x5001);
+    s.list(long_set(&[1, 2, 3]));
+    s.announce(list_of(&[9]), |inputs| inputs.inbound = 0x5002);
+    for time in [102, 104, 108, 109, 116, 117] {
+        s.tick(time);
+    }
+}
+
+/// Lifetimes that end before a check is given up, with it, and after it.
+fn expiry_of_checks(s: &mut Script) {
+    for lifetime in [1, 2, 3, 4, 8, 15, 16, 17] {
+        let end = 100 + u64::from(lifetime);
+        for time in [end - 1, end, end + 1] {
+            s.start_at(100, 100_000);
+            s.list(lasting(lifetime, set_of(&[1, 2])));
+            let nonce = s.nonce_of(1);
+            s.tick(time);
+            s.tick(end);
+            s.echo(nonce);
+        }
+        // After the resends before.
+        s.start_at(100, 100_000);
+        s.list(lasting(lifetime, set_of(&[1, 2])));
+        for time in [101, 102, 104, 108, 115, 116] {
+            s.tick(time);
+        }
+    }
+}
+
+/// Checks that are given up, late answers to them, and what the next Moves do
+/// with the address and its slot.
+fn checks_given_up(s: &mut Script) {
+    for end in [116, 117, 130] {
+        s.start_waiting(&[1, 2]);
+        let first = s.nonce_of(1);
+        s.tick(108);
+        s.tick(end);
+        s.echo(first);
+        s.changed(long_set(&[1, 2]), |text| {
+            text.echo = Some(first.to_be_bytes().to_vec());
+        });
+        s.list(long_set(&[1, 2]));
+        s.echo(first);
+        for age in [1, 2, 4] {
+            s.tick(end + age);
+        }
+        let second = s.nonce_of(1);
+        s.tick(end + 16);
+        s.echo(second);
+        s.list(long_set(&[2]));
+        s.echo(second);
+        s.tick(end + 17);
+        let third = s.nonce_of(1);
+        s.echo(third);
+        s.tick(end + 32);
+        // Another address in the slot of one that was given up.
+        s.list(long_set(&[1, 2]));
+        s.tick(end + 48);
+        let slot = s.association().slot_of(&number(1)).expect("it is held");
+        s.list(long_set(&[2, 7]));
+        s.tick(end + 49);
+        let fourth = s.nonce_of(slot);
+        s.echo(first);
+        s.echo(fourth);
+    }
+    // Several at once, then a new SPI for some of them.
+    s.start_waiting(&[1, 2, 3, 4]);
+    s.tick(104);
+    s.tick(116);
+    s.changed(long_set(&[1, 2, 5]), |text| text.new_spi = 0x3001);
+    s.tick(117);
+    // The only address: nothing carries payload until it is listed again.
+    for traffic in [0, 1, 2] {
+        s.start();
+        let set = with_traffic(traffic, long_set(&[2]));
+        s.list(set.clone());
+        s.arrive(5000);
+        s.send(100);
+        s.tick(115);
+        s.send(100);
+        s.tick(116);
+        s.send(100);
+        s.list(set.clone());
+        s.send(100);
+        s.tick(117);
+    }
+}
+
+/// 0 to 8 checks in one tick.
+fn numbers_of_resends(s: &mut Script) {
+    for count in 0..=8 {
+        s.start_at(100, 100_000);
+        let numbers: Vec<u8> = (2..2 + count).collect();
+        if count < 8 {
+            s.list(long_set(&[&[1][..], &numbers].concat()));
+        } else {
+            s.list(long_set(&numbers));
+        }
+        for time in [101, 103, 105, 115, 116] {
+            s.tick(time);
+        }
+    }
+}
+
+/// Slots that send nothing between those that do; checks of different age.
+fn slots_between(s: &mut Script) {
+    // ACTIVE, then DEPRECATED, then with later checks.
+    s.start_waiting(&[1, 2, 3, 4, 5, 6, 7, 8]);
+    let nonce = s.nonce_of(2);
+    s.echo(nonce);
+    s.tick(101);
+    s.list(long_set(&[8, 7, 6, 4, 3, 2, 1]));
+    s.tick(102);
+    s.list(long_set(&[1, 2, 3, 4, 5, 6, 7, 8]));
+    for time in 103..=105 {
+        s.tick(time);
+    }
+    s.list(long_set(&[1, 2, 3, 4, 5, 7, 8]));
+    s.list(long_set(&[1, 2, 3, 4, 5, 6, 7, 8]));
+    for time in 106..=121 {
+        s.tick(time);
+    }
+    // Given up between two that are issued later.
+    s.start_waiting(&[1, 2, 3, 4]);
+    s.tick(108);
+    s.list(long_set(&[1, 3]));
+    s.list(long_set(&[1, 2, 3, 4]));
+    s.tick(116);
+    // Expired between, ACTIVE and UNVERIFIED.
+    for verified in [false, true] {
+        s.start_at(100, 100_000);
+        let mut set = long_set(&[1, 2, 3, 4]);
+        set[2].lifetime = 4;
+        s.list(set);
+        if verified {
+            let nonce = s.nonce_of(2);
+            s.echo(nonce);
+        }
+        s.tick(103);
+        s.tick(104);
+    }
+    // Slot order is not the order of issue.
+    s.start_waiting(&[1, 2, 3, 4]);
+    s.list(long_set(&[1, 3, 4]));
+    s.list(long_set(&[4, 2, 3, 1]));
+    s.tick(101);
+    s.list(long_set(&[2, 3, 4]));
+    s.list(long_set(&[3, 1, 2, 4]));
+    for time in [102, 104, 108, 116, 117] {
+        s.tick(time);
+    }
+}
+
+/// A new SPI retires the checks under way; those that the same Move gives have
+/// issue times of their own.
+fn resends_after_a_new_spi(s: &mut Script) {
+    for age in [0, 1, 3, 7, 9, 15] {
+        s.start_waiting(&[1, 2]);
+        let nonce = s.nonce_of(1);
+        s.tick(100 + age);
+        s.changed(long_set(&[1, 2]), |text| text.new_spi = 0x3001);
+        s.echo(nonce);
+        for later in [1, 2, 3, 8, 16] {
+            s.tick(100 + age + later);
+        }
+    }
+}
+
+/// Nothing is sent again for checks that ended otherwise, nor for those of an
+/// association before this one.
+fn checks_that_are_gone(s: &mut Script) {
+    for set in [&[1][..], &[1, 4], &[4, 5, 6]] {
+        s.start_waiting(&[1, 2, 3]);
+        s.tick(101);
+        s.list(long_set(set));
+        for time in [102, 104, 108, 116, 117] {
+            s.tick(time);
+        }
+    }
+    s.start_waiting(&[1, 2]);
+    s.start();
+    for time in [101, 102, 116] {
+        s.tick(time);
+    }
+    // A start that is refused leaves the check.
+    s.start_waiting(&[1, 2]);
+    s.start_at(TIME_LIMIT, 60);
+    s.tick(101);
+    s.start_at(100, 0);
+    s.tick(116);
 }

@@ -2,6 +2,7 @@
 //! association. It is written from documents 01 and 02 alone.
 
 mod address;
+mod ageing;
 mod announcement;
 mod assemble;
 mod association;
@@ -11,6 +12,7 @@ mod compose;
 mod gate;
 mod history;
 mod message;
+mod own_check;
 mod packet;
 mod print;
 mod random;
@@ -19,6 +21,7 @@ mod record;
 mod replay;
 #[cfg(test)]
 mod tests;
+mod tick;
 
 use std::io::{self, BufWriter, ErrorKind, Write};
 use std::process::ExitCode;

@@ -5,10 +5,10 @@ use std::collections::BTreeSet;
 use crate::address::legal_edge;
 use crate::association::{is_unusable, Association, Locator, Status, OWN_ID_LIMIT, SLOTS};
 use crate::check::{accept_check, check_answer, note_check, note_refused, note_repeated_check};
+use crate::own_check::OwnCheck;
 use crate::packet::{
-    esp_info_body, read_content, read_parameters, write_parameter, Content, Listed, Move,
-    Parameter, ACK, ECHO_REQUEST_SIGNED, ESP_INFO, HIP_MAC, HIP_SIGNATURE, HOST_ID, LOCATOR_SET,
-    SEQ,
+    acknowledgement, read_content, read_parameters, Content, Listed, Move, Parameter, ACK,
+    ESP_INFO, HIP_MAC, HIP_SIGNATURE, HOST_ID, LOCATOR_SET,
 };
 use crate::reasons::{Notes, Reasons};
 use crate::record::MessageInputs;
@@ -167,7 +167,7 @@ fn accept_reply(
     notes.add_if(reasons.has(10), "reply: accepted with refusal 10's nonces");
     let several = association.outstanding().len() > 1;
     notes.add_if(several, "step 1: one of several outstanding answered");
-    verify(association, echo);
+    verify(association, echo, notes);
     notes.add("reply accepted");
     Answer::Accepted {
         reply: Vec::new(),
@@ -176,11 +176,30 @@ fn accept_reply(
     }
 }
 
+/// The count of resends of a check when its answer comes.
+const ANSWERED: [&str; 5] = [
+    "step 1: answered with count 0",
+    "step 1: answered with count 1",
+    "step 1: answered with count 2",
+    "step 1: answered with count 3",
+    "step 1: answered with count 4",
+];
+
 /// Step 1: the slot that an echo response verifies turns ACTIVE.
-fn verify(association: &mut Association, echo: &[u8]) -> Option<usize> {
+/// Gives the slot and its check.
+fn verify(
+    association: &mut Association,
+    echo: &[u8],
+    notes: &mut Notes,
+) -> Option<(usize, OwnCheck)> {
     let slot = slot_of_echo(association, echo)?;
-    association.held.get_mut(&slot)?.status = Status::Active;
-    Some(slot)
+    let locator = association.held.get_mut(&slot)?;
+    let check = locator.check()?;
+    notes.add(ANSWERED[check.resends]);
+    let late = check.age(association.time) == 15;
+    notes.add_if(late, "step 1: answered 15 seconds after issue");
+    locator.status = Status::Active;
+    Some((slot, check))
 }
 
 fn accept_move(
@@ -230,7 +249,9 @@ fn step_one(after: &mut Association, content: &Move, notes: &mut Notes) -> Optio
         notes.add("step 1: Move without an echo");
         return None;
     };
-    let slot = verify(after, echo)?;
+    let (slot, check) = verify(after, echo, notes)?;
+    let again = check.resends > 0;
+    notes.add_if(again, "step 1: a Move answers a check sent again");
     let listed = lists(content, &after.held[&slot].address);
     let new_spi = content.new_spi != after.outbound;
     notes.add(match (new_spi, listed) {
@@ -257,7 +278,7 @@ fn step_two(after: &mut Association, content: &Move, notes: &mut Notes) {
     for locator in after.held.values_mut() {
         notes.add(match locator.status {
             Status::Active => "step 2: ACTIVE retired",
-            Status::Unverified { .. } => "step 2: UNVERIFIED retired",
+            Status::Unverified(_) => "step 2: UNVERIFIED retired",
             Status::Deprecated => "step 2: DEPRECATED stays",
         });
         locator.status = Status::Deprecated;
@@ -289,7 +310,11 @@ fn step_three(
                 notes.add("step 3: ACTIVE stays");
                 notes.add_if(verified == Some(slot), "step 3: just verified stays");
             }
-            Status::Unverified { .. } => notes.add("step 3: UNVERIFIED keeps its check"),
+            Status::Unverified(check) => {
+                notes.add("step 3: UNVERIFIED keeps its check");
+                let again = check.resends > 0;
+                notes.add_if(again, "step 3: UNVERIFIED keeps a check sent again");
+            }
             Status::Deprecated => {
                 new_checks.insert(slot);
             }
@@ -318,7 +343,7 @@ fn step_four(after: &mut Association, content: &Move, notes: &mut Notes) {
         }
         notes.add(match locator.status {
             Status::Active => "step 4: ACTIVE not listed",
-            Status::Unverified { .. } => "step 4: UNVERIFIED not listed",
+            Status::Unverified(_) => "step 4: UNVERIFIED not listed",
             Status::Deprecated => "step 4: DEPRECATED not listed",
         });
         locator.status = Status::Deprecated;
@@ -394,28 +419,18 @@ fn deal_checks(
     }
     let mut reply = Vec::new();
     for (slot, nonce) in new_checks.iter().zip(nonces) {
-        let (nonce, id) = (*nonce, after.own_id);
+        let check = OwnCheck {
+            nonce: *nonce,
+            id: after.own_id,
+            issued: after.time,
+            resends: 0,
+        };
         let locator = after.held.get_mut(slot).expect("the slot is held");
-        locator.status = Status::Unverified { nonce, id };
+        locator.status = Status::Unverified(check);
         after.own_id += 1;
-        reply.extend(check_bytes(after.inbound, id, content.update_id, nonce));
+        reply.extend(check.bytes(after.inbound, Some(content.update_id)));
     }
     reply
-}
-
-/// "ESP_INFO (KEYMAT Index 0, both SPIs the inbound one), SEQ, ACK of the
-/// peer's ID, ECHO_REQUEST_SIGNED with 8 nonce bytes."
-fn check_bytes(inbound: u32, own_id: u64, peer_id: u32, nonce: u64) -> Vec<u8> {
-    let own_id = u32::try_from(own_id).expect("refusal 11 keeps own IDs below 2^32");
-    let mut bytes = write_parameter(ESP_INFO, &esp_info_body(0, inbound, inbound));
-    bytes.extend(write_parameter(SEQ, &own_id.to_be_bytes()));
-    bytes.extend(acknowledgement(peer_id));
-    bytes.extend(write_parameter(ECHO_REQUEST_SIGNED, &nonce.to_be_bytes()));
-    bytes
-}
-
-pub fn acknowledgement(peer_id: u32) -> Vec<u8> {
-    write_parameter(ACK, &peer_id.to_be_bytes())
 }
 
 /// "The peer's Update ID is stored."
@@ -462,7 +477,7 @@ fn note_move(
             .map(|s| before.held[&s].status);
         match status {
             Some(Status::Active) if new_spi => notes.add("step 3: ACTIVE under a new SPI"),
-            Some(Status::Unverified { .. }) if new_spi => {
+            Some(Status::Unverified(_)) if new_spi => {
                 notes.add("step 3: UNVERIFIED under a new SPI");
             }
             Some(Status::Deprecated) if new_spi => notes.add("step 3: DEPRECATED under a new SPI"),

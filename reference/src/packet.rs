@@ -102,6 +102,11 @@ pub fn write_parameter(kind: u16, body: &[u8]) -> Vec<u8> {
     bytes
 }
 
+/// An ACK of one Update ID of the peer.
+pub fn acknowledgement(peer_id: u32) -> Vec<u8> {
+    write_parameter(ACK, &peer_id.to_be_bytes())
+}
+
 pub fn u16_at(bytes: &[u8], place: usize) -> u16 {
     u16::from_be_bytes([bytes[place], bytes[place + 1]])
 }

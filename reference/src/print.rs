@@ -4,7 +4,9 @@ use std::fmt::{Display, Write};
 
 use crate::association::{Association, Status};
 use crate::message;
+use crate::own_check::OwnCheck;
 use crate::replay::Answer;
+use crate::tick::Resent;
 
 /// The line of record `index`, then the state if there is an association.
 pub fn record(index: u64, answer: &Answer, association: Option<&Association>) -> String {
@@ -24,7 +26,8 @@ fn answer_text(answer: &Answer) -> String {
         Answer::Arrival(result) => accepted_or_not("arrival", result),
         Answer::Send(Ok(slot)) => format!("send granted slot {slot}"),
         Answer::Send(Err(number)) => format!("send refused {number}"),
-        Answer::Tick(result) => accepted_or_not("tick", result),
+        Answer::Tick(Ok(resent)) => tick_text(resent),
+        Answer::Tick(Err(number)) => format!("tick refused {number}"),
         Answer::Announcement(Ok(bytes)) => {
             let length = bytes.len();
             format!("announcement accepted bytes {length} {}", hex(bytes))
@@ -38,6 +41,16 @@ fn accepted_or_not(call: &str, result: &Result<(), u8>) -> String {
         Ok(()) => format!("{call} accepted"),
         Err(number) => format!("{call} refused {number}"),
     }
+}
+
+/// The bytes stand there only where a check is sent again.
+fn tick_text(resent: &Resent) -> String {
+    let mut text = format!("tick accepted resent {}", resent.checks);
+    if resent.checks > 0 {
+        text.push(' ');
+        text.push_str(&hex(&resent.bytes));
+    }
+    text
 }
 
 fn message_text(answer: &message::Answer) -> String {
@@ -89,7 +102,12 @@ fn status_text(status: &Status) -> String {
     match status {
         Status::Active => "active".to_string(),
         Status::Deprecated => "deprecated".to_string(),
-        Status::Unverified { nonce, id } => format!("unverified {nonce:016x} {id}"),
+        Status::Unverified(OwnCheck {
+            nonce,
+            id,
+            issued,
+            resends,
+        }) => format!("unverified {nonce:016x} {id} issued {issued} resends {resends}"),
     }
 }
 

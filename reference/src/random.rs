@@ -4,20 +4,21 @@
 use std::io::{self, Write};
 use std::net::Ipv6Addr;
 
+use crate::ageing::{aged_credit, AGEING_PERIOD};
 use crate::announcement::bytes_to_write;
-use crate::association::{
-    aged_credit, Association, Locator, AGEING_PERIOD, CREDIT_LIMIT, LARGEST_SIZE, TIME_LIMIT,
-};
+use crate::association::{Association, Locator, CREDIT_LIMIT, LARGEST_SIZE, TIME_LIMIT};
 use crate::compose::{
     ack, echo_request, echo_response, esp_info, packet, record_of, sections, seq,
     set_header_length, CheckText, MoveText, Tracer, Written,
 };
+use crate::own_check::OwnCheck;
 use crate::packet::{
     bytes_in_all, Listed, ACK, ECHO_REQUEST_SIGNED, ECHO_RESPONSE_SIGNED, ESP_INFO, HEADER_LENGTH,
     HIP_MAC, HIP_SIGNATURE, HOST_ID, LOCATOR_SET, SEQ,
 };
 use crate::record::{AnnouncementInputs, Call, Entry, MessageInputs, Sections, StartInputs};
 use crate::replay::Answer;
+use crate::tick::SMALLEST_BUFFER;
 
 /// Writes a random trace; the same seed gives the same bytes.
 pub fn write_trace(seed: u64, calls: u64, out: &mut impl Write) -> io::Result<()> {
@@ -128,6 +129,8 @@ struct Style {
     spoilt: u64,
     /// Percentage of arrivals that begin a run of large ones.
     bursts: u64,
+    /// Percentage of calls that are ticks, beside those that any style has.
+    ticks: u64,
     first_id: u32,
     /// Calls until the next start.
     calls: u64,
@@ -232,6 +235,9 @@ impl Generator {
             self.burst -= 1;
             return record_of(&self.large_arrival(&association));
         }
+        if self.random.percent(self.style.ticks) {
+            return record_of(&self.tick(&association));
+        }
         let call = match self.random.below(100) {
             0..=2 => return self.malformed(),
             3 => self.refused_start(),
@@ -250,7 +256,10 @@ impl Generator {
             1 => self.refused_start(),
             2 => Call::Arrival { size: 1 },
             3 => Call::Send { size: 0 },
-            4 => Call::Tick { time: 100 },
+            4 => Call::Tick {
+                time: 100,
+                buffer: self.random.pick(&[0, 320]),
+            },
             5 => Call::Message(MessageInputs {
                 authentic: true,
                 buffer: 384,
@@ -346,11 +355,30 @@ impl Generator {
 
     fn tick(&mut self, association: &Association) -> Call {
         let r = &mut self.random;
+        let buffer = match r.below(20) {
+            0 => r.pick(&[0, 1, 40, 280, 318, 319, 319, 319]),
+            1 => 320 + r.below(100),
+            2 => 65_535,
+            3 => 321,
+            _ => SMALLEST_BUFFER,
+        };
+        let checks = association.checks();
+        let time = if checks.is_empty() || r.percent(45) {
+            self.time_of_tick(association)
+        } else {
+            let check = r.pick(&checks);
+            beside_a_moment(r, &check, association.time)
+        };
+        Call::Tick { time, buffer }
+    }
+
+    fn time_of_tick(&mut self, association: &Association) -> u64 {
+        let r = &mut self.random;
         let (now, aged) = (association.time, association.aged);
         let live = association.held.values().filter(|l| !l.is_deprecated());
         let soon = live.filter(|l| l.expiry < now + 3000);
         let expiries: Vec<u64> = soon.map(|l| l.expiry).collect();
-        let time = match r.below(40) {
+        match r.below(40) {
             0 => now.saturating_sub(1),
             1 => r.below(now + 1),
             2 => r.pick(&[TIME_LIMIT, TIME_LIMIT + 1, u64::MAX]),
@@ -364,8 +392,7 @@ impl Generator {
             16..=21 if !expiries.is_empty() => r.pick(&expiries) + r.below(3) - 1,
             22..=27 => periods_later(r, association),
             _ => now + r.below(4),
-        };
-        Call::Tick { time }
+        }
     }
 
     fn message(&mut self, association: &Association) -> Call {
@@ -916,7 +943,7 @@ impl Generator {
         let r = &mut self.random;
         let good = [1; 16];
         let wide = 1 << 32;
-        match r.below(16) {
+        match r.below(19) {
             0 => sections(&[], &[], &[]),
             1 => sections(&[6 + r.below(3)], &[], &[]),
             2 => sections(&[0, 1, 1, 1], &good, &[]),
@@ -929,10 +956,13 @@ impl Generator {
             8 => sections(&[1, 2, 384], &good, &[1; 8]),
             9 => sections(&[1, 1, 65_536], &good, &[1; 8]),
             10 => sections(&[1, 1, 384], &good, &vec![1; r.pick(&[0, 7, 9])]),
-            11 => sections(&[2 + r.below(3), 1], &[1], &[]),
-            12 => sections(&[2 + r.below(3), 1], &[], &[1]),
+            11 => sections(&plain_numbers(r), &[1], &[]),
+            12 => sections(&plain_numbers(r), &[], &[1]),
             13 => sections(&[1 + r.below(4)], &[], &[]),
             14 => sections(&[u64::MAX, 1], &[], &[]),
+            15 => sections(&[4, r.below(1000)], &[], &[]),
+            16 => sections(&[4, 1, r.pick(&[65_536, 65_856, u64::MAX])], &[], &[]),
+            17 => sections(&[4, 1, 320, r.below(400)], &[], &[]),
             _ => {
                 let mut record = sections(&[2 + r.below(4), 1], &[], &[]);
                 record.numbers.truncate(1 + r.index(15));
@@ -1006,6 +1036,7 @@ impl Style {
             new_spis: r.pick(&[0, 10, 10, 30]),
             spoilt: r.pick(&[10, 45, 55, 60]),
             bursts: r.pick(&[0, 0, 3, 3]),
+            ticks: r.pick(&[0, 0, 20, 50]),
             first_id: match r.below(8) {
                 0 => 0,
                 1 => u32::MAX - r.below(40) as u32,
@@ -1016,6 +1047,11 @@ impl Style {
             calls: r.pick(&[20, 100, 100, 300, 1000]),
         }
     }
+}
+
+/// The numbers of an arrival, a send or a tick.
+fn plain_numbers(r: &mut Random) -> Vec<u64> {
+    r.pick(&[vec![2, 1], vec![3, 1], vec![4, 1, 320]])
 }
 
 /// A time beside a whole number of periods after the last ageing: mostly few,
@@ -1032,6 +1068,22 @@ fn periods_later(r: &mut Random, association: &Association) -> u64 {
     association.aged + periods * AGEING_PERIOD + r.below(3) - 1
 }
 
+/// A second after issue of a check under way, beside a moment of resending or
+/// its end: mostly one that comes soon.
+fn beside_a_moment(r: &mut Random, check: &OwnCheck, now: u64) -> u64 {
+    let ages = [0, 1, 2, 3, 4, 5, 7, 8, 9, 15, 16, 17];
+    let times = ages.iter().map(|age| check.issued + age);
+    // A check is given up at 16 seconds, so those are still to come.
+    let ahead: Vec<u64> = times.filter(|time| *time >= now).collect();
+    let near = ahead.len().min(3);
+    // Now and then later by what 8 or 16 bits do not show.
+    match r.below(30) {
+        0 => r.pick(&ahead) + r.pick(&[1 << 8, 1 << 16]),
+        1..=5 => r.pick(&ahead),
+        _ => r.pick(&ahead[..near]),
+    }
+}
+
 /// A time after months or years of silence.
 fn far_ahead(r: &mut Random, now: u64) -> u64 {
     let last = TIME_LIMIT - 1;
@@ -1043,7 +1095,7 @@ fn far_ahead(r: &mut Random, now: u64) -> u64 {
 fn lifetime(r: &mut Random) -> u32 {
     match r.below(12) {
         0 => 1,
-        1..=2 => 1 + r.below(12) as u32,
+        1..=2 => 1 + r.below(20) as u32,
         3..=5 => 60,
         6..=9 => 200 + r.below(2000) as u32,
         10 => r.number() as u32 | 1,

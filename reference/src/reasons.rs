@@ -26,9 +26,9 @@ impl Notes {
 
 /// The refusals in the order in which they are tried. A call that tries two of
 /// them tries the one that stands earlier here first: 22 comes right after 5,
-/// the others follow their numbers.
-const TRIED: [u8; 23] = [
-    0, 1, 2, 3, 4, 5, 22, 6, 7, 8, 9, 10, 11, 12, 13, 14, 15, 16, 17, 18, 19, 20, 21,
+/// 23 before 12, the others follow their numbers.
+const TRIED: [u8; 24] = [
+    0, 1, 2, 3, 4, 5, 22, 6, 7, 8, 9, 10, 11, 23, 12, 13, 14, 15, 16, 17, 18, 19, 20, 21,
 ];
 
 /// The place of a refusal in the order of trying.

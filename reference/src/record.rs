@@ -22,9 +22,17 @@ pub enum Next {
 pub enum Call {
     Start(StartInputs),
     Message(MessageInputs),
-    Arrival { size: u64 },
-    Send { size: u64 },
-    Tick { time: u64 },
+    Arrival {
+        size: u64,
+    },
+    Send {
+        size: u64,
+    },
+    /// With the length of the lent buffer.
+    Tick {
+        time: u64,
+        buffer: u64,
+    },
     Announcement(AnnouncementInputs),
 }
 
@@ -127,9 +135,15 @@ pub fn understand(record: &Sections) -> Result<Call, Vec<&'static str>> {
             start(record, *time, [*outbound, *inbound, *lifetime])
         }
         (1, [authentic, buffer]) => message(record, *authentic, *buffer),
-        (2, [size]) => plain(record, Call::Arrival { size: *size }, ARRIVAL_BYTES),
-        (3, [size]) => plain(record, Call::Send { size: *size }, SEND_BYTES),
-        (4, [time]) => plain(record, Call::Tick { time: *time }, TICK_BYTES),
+        (2, [size]) => {
+            let faults = other_sections(record, ARRIVAL_BYTES);
+            unless_faulty(Call::Arrival { size: *size }, faults)
+        }
+        (3, [size]) => {
+            let faults = other_sections(record, SEND_BYTES);
+            unless_faulty(Call::Send { size: *size }, faults)
+        }
+        (4, [time, buffer]) => tick(record, *time, *buffer),
         (5, [buffer, list @ .., inbound, keymat]) if list.len() % 4 == 0 => {
             announcement(record, list, [*buffer, *inbound, *keymat])
         }
@@ -137,6 +151,7 @@ pub fn understand(record: &Sections) -> Result<Call, Vec<&'static str>> {
         (1, _) => Err(vec!["malformed: count of a message's numbers"]),
         (2, _) => Err(vec!["malformed: count of an arrival's numbers"]),
         (3, _) => Err(vec!["malformed: count of a send's numbers"]),
+        (4, [_]) => Err(vec!["malformed: tick without a buffer"]),
         (4, _) => Err(vec!["malformed: count of a tick's numbers"]),
         (5, _) => Err(vec!["malformed: count of an announcement's numbers"]),
         _ => Err(vec!["malformed: unknown call"]),
@@ -302,11 +317,7 @@ const TICK_BYTES: [&str; 2] = [
 ];
 
 /// Arrival, send and tick use neither section two nor section three.
-fn plain(
-    record: &Sections,
-    call: Call,
-    [two, three]: [&'static str; 2],
-) -> Result<Call, Vec<&'static str>> {
+fn other_sections(record: &Sections, [two, three]: [&'static str; 2]) -> Vec<&'static str> {
     let mut faults = Vec::new();
     if !record.bytes.is_empty() {
         faults.push(two);
@@ -314,7 +325,16 @@ fn plain(
     if !record.nonces.is_empty() {
         faults.push(three);
     }
-    unless_faulty(call, faults)
+    faults
+}
+
+/// `4 time buffer`
+fn tick(record: &Sections, time: u64, buffer: u64) -> Result<Call, Vec<&'static str>> {
+    let mut faults = other_sections(record, TICK_BYTES);
+    if buffer > 65_535 {
+        faults.push("malformed: tick's buffer over 65,535");
+    }
+    unless_faulty(Call::Tick { time, buffer }, faults)
 }
 
 fn unless_faulty(call: Call, faults: Vec<&'static str>) -> Result<Call, Vec<&'static str>> {

@@ -10,6 +10,7 @@ use crate::message::{self, message};
 use crate::print;
 use crate::reasons::Notes;
 use crate::record::{next, understand, Call, MessageInputs, Next, Sections, StartInputs};
+use crate::tick::{tick, Resent};
 
 /// The answer to one record.
 #[derive(Clone, Debug, PartialEq, Eq)]
@@ -20,7 +21,7 @@ pub enum Answer {
     Message(message::Answer),
     Arrival(Result<(), u8>),
     Send(Result<usize, u8>),
-    Tick(Result<(), u8>),
+    Tick(Result<Resent, u8>),
     /// The bytes written.
     Announcement(Result<Vec<u8>, u8>),
 }
@@ -71,10 +72,9 @@ impl Player {
                 notes.add_if(result.is_err(), "send refused");
                 Answer::Send(result)
             }
-            Call::Tick { time } => {
+            Call::Tick { time, buffer } => {
                 let before = association.clone();
-                let result = association.tick(*time, notes);
-                self.history.observe(&before, association, &[]);
+                let result = tick(association, *time, *buffer, notes);
                 if result.is_ok() {
                     self.history.ticked(&before, association, notes);
                 }
@@ -125,7 +125,8 @@ impl Player {
         let answer = message(association, inputs, notes);
         match answer {
             message::Answer::Accepted { checks, .. } => {
-                self.history.observe(&before, association, &inputs.packet);
+                self.history
+                    .observe(&before, association, &inputs.packet, notes);
                 self.history.note_checks(checks, notes);
             }
             message::Answer::Repeated { .. } => {

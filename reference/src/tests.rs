@@ -1,5 +1,7 @@
 //! Document 01's worked cases, the mistakes it warns of, order 1's bytes and
-//! round trips, order 3's ageing, and the form of the output.
+//! round trips, order 3's ageing, order 4's resends, and the form of the output.
+
+mod resends;
 
 use crate::announcement::{announce, bytes_to_write};
 use crate::association::{Association, Status, CREDIT_LIMIT, TIME_LIMIT};
@@ -8,7 +10,8 @@ use crate::compose::{
     ack, behind_header, echo_request, echo_response, locator_set, packet, sections, seq, CheckText,
     MoveText, Tracer,
 };
-use crate::message::Answer as MessageAnswer;
+use crate::message::{self, Answer as MessageAnswer};
+use crate::own_check::OwnCheck;
 use crate::packet::{
     bytes_in_all, content_of, read_parameters, write_parameter, Content, Listed, Move, Parameter,
     ACK, ESP_INFO, HIP_MAC, HIP_SIGNATURE, HOST_ID, LOCATOR_SET, SEQ,
@@ -20,6 +23,7 @@ use crate::record::{
     understand, AnnouncementInputs, Call, Entry, MessageInputs, Sections, StartInputs,
 };
 use crate::replay::{for_each_record, replay_from, Answer, Player};
+use crate::tick::{self, Resent, SMALLEST_BUFFER};
 
 const OUTBOUND: u32 = 0x2001;
 const NONCES: [u64; 8] = [0x0102030405060708, 2, 3, 4, 5, 6, 7, 8];
@@ -142,6 +146,16 @@ fn status(tracer: &Tracer, slot: usize) -> Status {
     tracer.player.association.as_ref().unwrap().held[&slot].status
 }
 
+/// The status of a slot whose check has not been sent again.
+fn waiting(nonce: u64, id: u64, issued: u64) -> Status {
+    Status::Unverified(OwnCheck {
+        nonce,
+        id,
+        issued,
+        resends: 0,
+    })
+}
+
 fn address_in(tracer: &Tracer, slot: usize) -> [u8; 16] {
     tracer.player.association.as_ref().unwrap().held[&slot].address
 }
@@ -151,9 +165,16 @@ fn arrive(tracer: &mut Tracer, size: u64) {
     assert_eq!(answer, Answer::Arrival(Ok(())));
 }
 
-fn tick(tracer: &mut Tracer, time: u64) {
-    let answer = tracer.call(&Call::Tick { time });
-    assert_eq!(answer, Answer::Tick(Ok(())));
+/// Runs a tick with the shortest buffer; gives what it sends again.
+fn tick(tracer: &mut Tracer, time: u64) -> Resent {
+    tick_with(tracer, time, SMALLEST_BUFFER).expect("accepted")
+}
+
+fn tick_with(tracer: &mut Tracer, time: u64, buffer: u64) -> Result<Resent, u8> {
+    match tracer.call(&Call::Tick { time, buffer }) {
+        Answer::Tick(result) => result,
+        other => panic!("not a tick's answer: {other:?}"),
+    }
 }
 
 fn send(tracer: &mut Tracer, size: u64) -> Result<usize, u8> {
@@ -313,17 +334,22 @@ fn before_a_silence(r: &mut Random) -> (Association, u64) {
     (association, end)
 }
 
+fn accepted_tick(association: &mut Association, time: u64) {
+    let answer = tick::tick(association, time, SMALLEST_BUFFER, &mut Notes::default());
+    assert!(answer.is_ok());
+}
+
 #[test]
 fn ticks_between_do_not_change_what_a_stretch_of_time_costs() {
     let mut r = Random(1);
     for _ in 0..2000 {
         let (mut one, end) = before_a_silence(&mut r);
         let mut several = one.clone();
-        one.tick(end, &mut Notes::default()).unwrap();
+        accepted_tick(&mut one, end);
         let most = 1 + r.below(40);
         while several.time < end {
             let time = end.min(several.time + r.below(most + 1));
-            several.tick(time, &mut Notes::default()).unwrap();
+            accepted_tick(&mut several, time);
         }
         assert_eq!(several.credit, one.credit);
         assert_eq!(several.aged, one.aged);
@@ -347,7 +373,7 @@ fn ageing_is_what_it_is_second_by_second() {
     for _ in 0..2000 {
         let (mut association, end) = before_a_silence(&mut r);
         let expected = second_by_second(association.credit, association.aged, end);
-        association.tick(end, &mut Notes::default()).unwrap();
+        accepted_tick(&mut association, end);
         assert_eq!((association.credit, association.aged), expected);
     }
 }
@@ -415,8 +441,7 @@ fn active_is_not_carried_over_to_a_new_spi() {
         ..move_of(0, vec![listed(1)])
     };
     accept(&mut tracer, &changed, nonces(1));
-    let check = Status::Unverified { nonce: 100, id: 0 };
-    assert_eq!(status(&tracer, 0), check);
+    assert_eq!(status(&tracer, 0), waiting(100, 0, 100));
 }
 
 #[test]
@@ -471,8 +496,7 @@ fn deprecated_needs_a_new_check() {
         &move_of(2, vec![listed(1), listed(2)]),
         nonces(3),
     );
-    let check = Status::Unverified { nonce: 300, id: 1 };
-    assert_eq!(status(&tracer, 1), check);
+    assert_eq!(status(&tracer, 1), waiting(300, 1, 100));
 }
 
 #[test]
@@ -493,8 +517,7 @@ fn a_deprecated_slot_listed_later_is_not_refilled() {
     assert_eq!(address_in(&tracer, 0), address(1));
     assert_eq!(address_in(&tracer, 1), address(3));
     // In slot order, not in listed order.
-    let check = Status::Unverified { nonce: 300, id: 1 };
-    assert_eq!(status(&tracer, 0), check);
+    assert_eq!(status(&tracer, 0), waiting(300, 1, 100));
 }
 
 #[test]
@@ -941,7 +964,7 @@ fn two_associations_change_addresses_with_each_other() {
             } => reply,
             other => panic!("not accepted: {other:?}"),
         };
-        assert!(matches!(status(peer, 0), Status::Unverified { .. }));
+        assert!(matches!(status(peer, 0), Status::Unverified(_)));
         let reply = match send_message(mobile, behind_header(&check), nonces(9)) {
             MessageAnswer::Accepted {
                 reply, checks: 0, ..
@@ -971,16 +994,16 @@ const SAMPLE: &str = "\
 0041000c0000000000001001000010010181000400000000\
 01c100040000000703810008010203040506070800000000
   out 8193 in 4097 time 100 aged 100 credit 1000 peer 7 own 1 preferred -
-  slot 0 20010db8000000000000000000000002 traffic 0 expiry 160 unverified 0102030405060708 0
+  slot 0 20010db8000000000000000000000002 traffic 0 expiry 160 unverified 0102030405060708 0 issued 100 resends 0
 4 send granted slot 0
   out 8193 in 4097 time 100 aged 100 credit 400 peer 7 own 1 preferred -
-  slot 0 20010db8000000000000000000000002 traffic 0 expiry 160 unverified 0102030405060708 0
+  slot 0 20010db8000000000000000000000002 traffic 0 expiry 160 unverified 0102030405060708 0 issued 100 resends 0
 5 send refused 15
   out 8193 in 4097 time 100 aged 100 credit 400 peer 7 own 1 preferred -
-  slot 0 20010db8000000000000000000000002 traffic 0 expiry 160 unverified 0102030405060708 0
+  slot 0 20010db8000000000000000000000002 traffic 0 expiry 160 unverified 0102030405060708 0 issued 100 resends 0
 6 message repeated reply 8 checks 0 keymat 0 01c1000400000007
   out 8193 in 4097 time 100 aged 100 credit 400 peer 7 own 1 preferred -
-  slot 0 20010db8000000000000000000000002 traffic 0 expiry 160 unverified 0102030405060708 0
+  slot 0 20010db8000000000000000000000002 traffic 0 expiry 160 unverified 0102030405060708 0 issued 100 resends 0
 7 message accepted reply 0 checks 0 keymat 0
   out 8193 in 4097 time 100 aged 100 credit 400 peer 7 own 1 preferred -
   slot 0 20010db8000000000000000000000002 traffic 0 expiry 160 active
@@ -1137,5 +1160,5 @@ fn the_gate_trace_meets_every_case() {
     );
     let census = census_of(name).unwrap().expect("the committed trace");
     assert_eq!(census.missing(), Vec::<&str>::new());
-    assert!(census.records >= 2000);
+    assert!(census.records >= 5000);
 }

@@ -16,7 +16,7 @@ use Rattle.update.specs.Messages.{placement, checksOf, newOutbound, newPeer, af
 
 module _ (a : Association) (m : MoveFields) (set : List ListedLocator) where
   pub left-after : (nonces : List ℕ) (p : Placement) (k : ℕ) (ss : List Slot) (q : Preference) → p ≡ placement a m set → k ≡ checksOf a m set →
-      refusal11 (a .next) k ≡ false → ss ≡ given set (a .next) nonces (p .slots) → q ≡ newPreference set p →
+      refusal11 (a .next) k ≡ false → ss ≡ given set (a .time) (a .next) nonces (p .slots) → q ≡ newPreference set p →
       record {
         outbound = newOutbound m;
         inbound = a .inbound;

@@ -61,7 +61,7 @@ fn after_move(
 {
     let unchecked = placed.slots;
     let count = m.count;
-    let slots = checks::give_checks(unchecked, listed, count, a.next, nonces);
+    let slots = checks::give_checks(unchecked, listed, count, a.time, a.next, nonces);
     // Step 6: the locator with P becomes preferred.
     let preferred = place::prefer(placed, listed, count);
     // Steps 2 and 7: NEW SPI becomes the outbound SPI, and the peer's Update ID is stored. The own IDs that the checks took are used up.

@@ -23,6 +23,7 @@ use Rattle.association.proofs.Sound.{Formed}
 use Rattle.announcement.specs.Listed.{asListed}
 use Rattle.announcement.proofs.Ends.{Passed}
 use Rattle.announcement.proofs.Kept.{announcement-keeps}
+use Rattle.readdress.specs.Checks.{newCheck, checkedBy}
 use Rattle.update.specs.declared.MessageOutcome.the-variants.{Replied}
 use Rattle.update.specs.Messages.{Handled, checksOf, moved, responded, replied}
 use Rattle.update.proofs.Kept.{message-keeps}
@@ -121,7 +122,7 @@ module _ (e : Meeting) (h : Meets e) where
         ap (λ (y : Handled). checkIn (y .reply) (g .k)) is-moved
         ∙ checks-stand-in-order (e .peers .inbound) (e .ours .next) (e .peers .next) nonces (checksOf (e .peers) m set) (g .k) (g .within)
 
-    has-check : statusIn x (reception e .left .slots) ≡ some (Unverified (record { nonce = nonce; id = checkId e (g .k) }))
+    has-check : statusIn x (reception e .left .slots) ≡ some (checkedBy (e .peers .time) (e .peers .next) nonces (g .k))
     has-check = ap (λ (y : Handled). statusIn x (y .left .slots)) is-moved ∙ g .status
 
     response-is : (w : Delivery) → Delivered w (check e (g .k)) echoRequestSigned → Below (announcement e .left .peer) (checkId e (g .k))
@@ -138,7 +139,7 @@ module _ (e : Meeting) (h : Meets e) where
       answered = λ w d below. ap (λ (y : Handled). y .outcome) (response-is w d below);
       verified =
           λ w v d below given.
-          answer-heard (checkId e (g .k)) (record { nonce = nonce; id = checkId e (g .k) }) (response e (g .k) w .reply)
+          answer-heard (checkId e (g .k)) (newCheck (e .peers .time) (e .peers .next) nonces (g .k)) (response e (g .k) w .reply)
           (ap (λ (y : Handled). y .reply) (response-is w d below)) v given (reception e .left) peers-sound x has-check (nonce-small nonces (g .k) (h .sized));
     }
 

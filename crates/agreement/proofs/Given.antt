@@ -63,11 +63,11 @@ module _ (b : Association) (m : MoveFields) (listed : List ListedLocator) (nonce
   pub record Given : Type 0 where
     pub k : ℕ
     pub within : k < checksOf b m listed
-    pub status : statusIn x (afterMove b m listed nonces .slots) ≡ some (checkedBy (b .next) nonces k)
+    pub status : statusIn x (afterMove b m listed nonces .slots) ≡ some (checkedBy (b .time) (b .next) nonces k)
 
-  after-is : statusIn x (afterMove b m listed nonces .slots) ≡ orElse (Option·map (checkedBy (b .next) nonces) (checkFor x listed 0 five)) (statusIn x five)
+  after-is : statusIn x (afterMove b m listed nonces .slots) ≡ orElse (Option·map (checkedBy (b .time) (b .next) nonces) (checkFor x listed 0 five)) (statusIn x five)
   unfolding afterMove
-  after-is = checked-status x listed (b .next) nonces 0 five
+  after-is = checked-status x listed (b .time) (b .next) nonces 0 five
 
   given : (k : ℕ) → checkFor x listed 0 five ≡ some k → Given
   given k h = record { k = k; within = let r = check-within x listed 0 k five h in omega (arith, r .1); status = after-is ∙ rw h }

@@ -8,7 +8,7 @@ use mathlib.Core.Path.{_≡_}
 use mathlib.Core.Bool.{Bool, true, false, not, _||_}
 use mathlib.Core.Option.{Option, none, some}
 use mathlib.Core.List.{List}
-use lib.ListN.{length, getD, take}
+use lib.ListN.{length, take}
 use Rattle.address.specs.declared.Address.{Address}
 use Rattle.parameter.specs.Types.{echoRequestSigned, echoResponseSigned}
 use Rattle.locator.specs.declared.ListedLocator.{ListedLocator}
@@ -17,6 +17,7 @@ use Rattle.slot.specs.declared.Status.the-variants.{Unverified, Active, Depreca
 use Rattle.slot.specs.Found.{slotCount, statusIn}
 use Rattle.packet.specs.declared.MoveFields.{MoveFields}
 use Rattle.readdress.specs.Steps.{isListed}
+use Rattle.readdress.specs.Checks.{checkedBy}
 use Rattle.reply_form.specs.Replies.{nonceCount}
 use Rattle.association.specs.declared.Association.{Association}
 use Rattle.announcement.specs.declared.OwnLocator.{OwnLocator}
@@ -126,10 +127,10 @@ pub record New (e : Meeting) (x : Address) : Type 0 where
 pub record Agrees (e : Meeting) (x : Address) : Type 0 where
   -- the announcement "is accepted by a peer's association"
   pub accepted : reception e .outcome ≡ Moved
-  -- "the check that it writes for a new address" is check k, whose nonce and ID the address has there
+  -- "the check that it writes for a new address" is check k, which the address has there
   pub k : ℕ
   pub written : k < reception e .checks
-  pub checks : statusIn x (reception e .left .slots) ≡ some (Unverified (record { nonce = getD (e .over .nonces) k 0; id = checkId e k }))
+  pub checks : statusIn x (reception e .left .slots) ≡ some (checkedBy (e .peers .time) (e .peers .next) (e .over .nonces) k)
   -- "behind a header, is a Check to us, accepted where our highest peer ID, if any, is below the check's"
   pub answered : (w : Delivery) → Delivered w (check e k) echoRequestSigned → Below (announcement e .left .peer) (checkId e k)
       → response e k w .outcome ≡ Responded

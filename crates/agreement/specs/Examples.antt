@@ -164,5 +164,5 @@ not-below : (Below (Highest 5) 5 → ⊥) × (Below (Highest 5) 4 → ⊥)
 not-below = (λ h. omega arith, λ h. omega arith)
 
 -- "a new address" is neither ACTIVE nor UNVERIFIED: one that is not held, or is DEPRECATED
-in-use : map inUse (none ∷ some (Unverified (record { nonce = 7; id = 8 })) ∷ some Active ∷ some Deprecated ∷ []) ≡ false ∷ true ∷ true ∷ false ∷ []
+in-use : map inUse (none ∷ some (Unverified (record { nonce = 7; id = 8; issued = 0; resends = 0 })) ∷ some Active ∷ some Deprecated ∷ []) ≡ false ∷ true ∷ true ∷ false ∷ []
 in-use = refl

@@ -30,7 +30,7 @@ announced-formed a inbound p e =
       whole = p .whole;
       unrefused =
           not-refused (afterAnnouncement a inbound)
-          (record { time = s .time; aged = s .aged; credit = s .credit; next = id-left (a .next) (s .next) e; preferred = s .preferred; apart = s .apart });
+          (record { time = s .time; aged = s .aged; credit = s .credit; next = id-left (a .next) (s .next) e; preferred = s .preferred; apart = s .apart; checks = s .checks });
     }
 
 pub announcement-keeps : (list : List OwnLocator) (count inbound keymat : ℕ) (buffer : List ℕ) →

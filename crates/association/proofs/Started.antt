@@ -47,7 +47,7 @@ module _ (time outbound inbound : ℕ) (address : Address) (lifetime : ℕ) wher
     whole = refl;
     unrefused =
         not-refused (started time outbound inbound address lifetime)
-        (record { time = start-early bad refl p; aged = omega arith; credit = omega arith; next = omega arith; preferred = refl; apart = refl });
+        (record { time = start-early bad refl p; aged = omega arith; credit = omega arith; next = omega arith; preferred = refl; apart = refl; checks = refl });
   }
 
   -- an accepted start holds its address ACTIVE, and no other

@@ -25,9 +25,13 @@ use Rattle.association.specs.Start.{noAssociation, started, startOf}
 abbrev holding : (low : ℕ) → Status → Slot
 holding low s = slotOf (record { address = record { high = 0x20010db800000000; low = low }; traffic = 0; expiry = 160; status = s })
 
--- UNVERIFIED, with this check
+-- UNVERIFIED, with a check of these numbers
+abbrev checked : (nonce id issued resends : ℕ) → Status
+checked nonce id issued resends = Unverified (record { nonce = nonce; id = id; issued = issued; resends = resends })
+
+-- the same, issued at 100
 abbrev waiting : (nonce id : ℕ) → Status
-waiting nonce id = Unverified (record { nonce = nonce; id = id })
+waiting nonce id = checked nonce id 100 0
 
 abbrev with : (time aged credit next : ℕ) → Preference → List Slot → Association
 with time aged credit next p slots =
@@ -53,6 +57,9 @@ broken =
     ∷ with 100 100 0 0 NoPreference (holding 1 (waiting 7 0) ∷ holding 2 (waiting 7 0) ∷ replicate 6 emptySlot)
     -- a DEPRECATED locator holds its address, and has no nonce outstanding
     ∷ with 100 100 0 0 NoPreference (holding 1 Active ∷ holding 1 Deprecated ∷ replicate 6 emptySlot)
+    -- a check that is issued after the stored time, and one that was sent again five times
+    ∷ with 100 100 0 0 NoPreference (holding 1 (checked 7 0 101 0) ∷ replicate 7 emptySlot)
+    ∷ with 100 100 0 0 NoPreference (holding 1 (checked 7 0 100 5) ∷ replicate 7 emptySlot)
     ∷ []
 
 -- each condition at its edge, and not broken
@@ -65,9 +72,11 @@ kept =
     ∷ with 100 100 0 0 NoPreference (replicate 8 emptySlot)
     -- other nonces by one Update ID
     ∷ with 100 100 0 0 NoPreference (holding 1 (waiting 7 0) ∷ holding 2 (waiting 8 0) ∷ replicate 6 emptySlot)
+    -- a check that is issued now and was sent again four times
+    ∷ with 100 100 0 0 NoPreference (holding 1 (checked 7 0 100 4) ∷ replicate 7 emptySlot)
     ∷ []
 
-refusal-0 : (map refusal0 broken ≡ replicate 11 true) × (map refusal0 kept ≡ replicate 5 false) × (refusal0 noAssociation ≡ true)
+refusal-0 : (map refusal0 broken ≡ replicate 13 true) × (map refusal0 kept ≡ replicate 6 false) × (refusal0 noAssociation ≡ true)
 unfolding refusal0 clashing records.some clash
 refusal-0 = (refl, refl, refl)
 

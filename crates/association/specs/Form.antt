@@ -6,7 +6,7 @@ use lib.Dec.{leb, ltb}
 use Rattle.refusal.specs.Table.{refusal}
 use Rattle.slot.specs.declared.Slot.{Slot}
 use Rattle.slot.specs.Found.{slotCount}
-use Rattle.slots.specs.Rules.{clashing}
+use Rattle.slots.specs.Rules.{clashing, badChecks}
 use Rattle.path.specs.declared.Preference.{Preference}
 use Rattle.path.specs.declared.Preference.the-variants.{NoPreference, Prefers}
 use Rattle.credit.specs.Credit.{creditLimit}
@@ -25,7 +25,7 @@ beyond NoPreference = false
 beyond (Prefers n) = leb slotCount n
 
 -- refusal 0: "the association handed in has time 2^40 or more, last ageing after its time, credit over the limit, next own ID over 2^32,
--- preferred slot over 7, an address held twice, or two equal outstanding nonces"
+-- preferred slot over 7, an address held twice, or two equal outstanding nonces", and order 4: "an issue time after the stored time or a count over 4"
 unfoldable pub refusal0 : Association → Bool
 refusal0 a =
     leb timeLimit (a .time)
@@ -33,7 +33,8 @@ refusal0 a =
     || (ltb creditLimit (a .credit)
     || (ltb idLimit (a .next)
     || (beyond (a .preferred)
-    || clashing (a .slots)))))
+    || (clashing (a .slots)
+    || badChecks (a .time) (a .slots))))))
 
 -- the association with another credit
 abbrev pub withCredit : Association → (credit : ℕ) → Association

@@ -45,13 +45,13 @@ module _ (listed : List ListedLocator) (ss : List Slot) where
   at-most-slots e = omega (arith, count-most listed ss)
 
   -- own Update IDs are used up, where the code counted n checks and found b
-  pub given-none : (next : ℕ) (ns : List ℕ) (n : ℕ) (b : Bool) → n ≡ checkCount listed ss → b ≡ refusal11 next n → b ≡ true → ss ≡ given listed next ns ss
-  given-none next ns n b p q r = rw (← p, ← q, r)
+  pub given-none : (time next : ℕ) (ns : List ℕ) (n : ℕ) (b : Bool) → n ≡ checkCount listed ss → b ≡ refusal11 next n → b ≡ true → ss ≡ given listed time next ns ss
+  given-none time next ns n b p q r = rw (← p, ← q, r)
 
   -- there are own Update IDs for all
   pub enough : (next n : ℕ) (b : Bool) → n ≡ checkCount listed ss → b ≡ refusal11 next n → b ≡ false → next + checkCount listed ss ≤ idLimit
   enough next n b p q r = rw (← p) (ltb-false idLimit (next + n) (sym q ∙ r))
 
   -- then all are given
-  pub given-all : (next : ℕ) (ns : List ℕ) (rs : List Slot) → rs ≡ checked listed next ns 0 ss → next + checkCount listed ss ≤ idLimit → rs ≡ given listed next ns ss
-  given-all next ns rs e h = e ∙ rw (le-ltb idLimit (next + checkCount listed ss) h)
+  pub given-all : (time next : ℕ) (ns : List ℕ) (rs : List Slot) → rs ≡ checked listed time next ns 0 ss → next + checkCount listed ss ≤ idLimit → rs ≡ given listed time next ns ss
+  given-all time next ns rs e h = e ∙ rw (le-ltb idLimit (next + checkCount listed ss) h)

@@ -65,17 +65,17 @@ module _ (listed : List ListedLocator) where
       omega (arith, m, w .total)
 
   -- the loop has passed i slots and given k checks: s is what it has made, and the rest of s decides
-  pub record Swept (next : ℕ) (ns : List ℕ) (xs s : List Slot) (k i : ℕ) : Type 0 where
+  pub record Swept (time next : ℕ) (ns : List ℕ) (xs s : List Slot) (k i : ℕ) : Type 0 where
     pub counted : Counted xs s k i
-    pub made : checked listed next ns 0 xs ≡ take i s ++ checked listed next ns k (drop i s)
+    pub made : checked listed time next ns 0 xs ≡ take i s ++ checked listed time next ns k (drop i s)
 
-  pub swept-none : (next : ℕ) (ns : List ℕ) (xs : List Slot) → length xs ≡ 8 → Swept next ns xs xs 0 0
-  swept-none next ns xs e = record { counted = counted-none xs e; made = refl }
+  pub swept-none : (time next : ℕ) (ns : List ℕ) (xs : List Slot) → length xs ≡ 8 → Swept time next ns xs xs 0 0
+  swept-none time next ns xs e = record { counted = counted-none xs e; made = refl }
 
-  pub swept-new : (next : ℕ) (ns : List ℕ) (xs s : List Slot) (k i : ℕ) (b : Bool) (y d : Slot) → Swept next ns xs s k i → i < 8 →
-      b ≡ awaits listed (getD s i d) → b ≡ true → y ≡ withCheck next ns k (getD s i d) → Swept next ns xs (set s i y) (k + 1) (i + 1)
+  pub swept-new : (time next : ℕ) (ns : List ℕ) (xs s : List Slot) (k i : ℕ) (b : Bool) (y d : Slot) → Swept time next ns xs s k i → i < 8 →
+      b ≡ awaits listed (getD s i d) → b ≡ true → y ≡ withCheck time next ns k (getD s i d) → Swept time next ns xs (set s i y) (k + 1) (i + 1)
   unfolding checked
-  swept-new next ns xs s k i b y d w h q r u =
+  swept-new time next ns xs s k i b y d w h q r u =
       let l : i < length s = omega (arith, w .counted .long) in
       let g = drop-set-lt (suc i) s i y (omega arith) in
       let m = counted-new xs s k i b d (w .counted) h q r in
@@ -89,18 +89,18 @@ module _ (listed : List ListedLocator) where
         made = w .made ∙ rw (drop-cons s i d l) (simp (← q, r, ← u, add-one, take-suc-set s i y l, g, append-assoc));
       }
 
-  pub swept-old : (next : ℕ) (ns : List ℕ) (xs s : List Slot) (k i : ℕ) (b : Bool) (d : Slot) → Swept next ns xs s k i → i < 8 →
-      b ≡ awaits listed (getD s i d) → b ≡ false → Swept next ns xs s k (i + 1)
+  pub swept-old : (time next : ℕ) (ns : List ℕ) (xs s : List Slot) (k i : ℕ) (b : Bool) (d : Slot) → Swept time next ns xs s k i → i < 8 →
+      b ≡ awaits listed (getD s i d) → b ≡ false → Swept time next ns xs s k (i + 1)
   unfolding checked
-  swept-old next ns xs s k i b d w h q r =
+  swept-old time next ns xs s k i b d w h q r =
       let l : i < length s = omega (arith, w .counted .long) in
       record {
         counted = counted-old xs s k i b d (w .counted) h q r;
         made = w .made ∙ rw (drop-cons s i d l) (simp (← q, r, add-one, take-suc s i d l, append-assoc));
       }
 
-  pub swept-all : (next : ℕ) (ns : List ℕ) (xs s : List Slot) (k i : ℕ) → Swept next ns xs s k i → 8 ≤ i → s ≡ checked listed next ns 0 xs
+  pub swept-all : (time next : ℕ) (ns : List ℕ) (xs s : List Slot) (k i : ℕ) → Swept time next ns xs s k i → 8 ≤ i → s ≡ checked listed time next ns 0 xs
   unfolding checked
-  swept-all next ns xs s k i w h =
+  swept-all time next ns xs s k i w h =
       let z : drop i s ≡ [] = drop-of-length-le s {i = i} (omega (arith, w .counted .long)) in
       sym (w .made ∙ rw (z, take-all i s (omega (arith, w .counted .long)), append-nil))

@@ -20,16 +20,16 @@ entry n = record { address = record { high = 1; low = n }; lifetime = 60; spi = 
 abbrev holding : (n : ℕ) → Status → Slot
 holding n s = slotOf (record { address = record { high = 1; low = n }; traffic = 2; expiry = 160; status = s })
 
--- UNVERIFIED, with this check
+-- UNVERIFIED, with this check, issued at 100
 abbrev waiting : (nonce id : ℕ) → Status
-waiting nonce id = Unverified (record { nonce = nonce; id = id })
+waiting nonce id = Unverified (record { nonce = nonce; id = id; issued = 100; resends = 0 })
 
 -- two addresses that await their checks
 abbrev found : List Slot
 found = holding 1 Deprecated ∷ holding 2 Deprecated ∷ []
 
 -- the last own Update ID is 2^32 - 1
-given-up-to-the-last : map (λ (next : ℕ). given (entry 1 ∷ entry 2 ∷ []) next (11 ∷ 12 ∷ []) found) (3 ∷ 4294967294 ∷ 4294967295 ∷ [])
+given-up-to-the-last : map (λ (next : ℕ). given (entry 1 ∷ entry 2 ∷ []) 100 next (11 ∷ 12 ∷ []) found) (3 ∷ 4294967294 ∷ 4294967295 ∷ [])
     ≡ (holding 1 (waiting 11 3) ∷ holding 2 (waiting 12 4) ∷ [])
     ∷ (holding 1 (waiting 11 4294967294) ∷ holding 2 (waiting 12 4294967295) ∷ [])
     ∷ found

@@ -8,5 +8,5 @@ use Rattle.readdress.specs.Checks.{checkCount, checked}
 use Rattle.update.specs.Refusals.{refusal11}
 
 -- the slots with their new checks; where own Update IDs would be used up (refusal 11), the slots as they are
-abbrev pub given : List ListedLocator → (next : ℕ) → (nonces : List ℕ) → List Slot → List Slot
-given listed next nonces ss = cond (refusal11 next (checkCount listed ss)) ss (checked listed next nonces 0 ss)
+abbrev pub given : List ListedLocator → (time next : ℕ) → (nonces : List ℕ) → List Slot → List Slot
+given listed time next nonces ss = cond (refusal11 next (checkCount listed ss)) ss (checked listed time next nonces 0 ss)

@@ -117,15 +117,20 @@ pub fn count_checks(
     checks
 }
 
-// The slot with a check of this nonce and Update ID.
-fn with_check(slot: Slot, nonce: u64, id: u32) -> Slot
-    ensures { λ r. ⌜ r ≡ onLocator (λ (l : locators.Locator). withStatus l (Unverified (record { nonce = nonce; id = id }))) slot ⌝ }
+// The slot with a check of this nonce and Update ID, issued now and not sent again yet.
+fn with_check(slot: Slot, nonce: u64, id: u32, time: u64) -> Slot
+    ensures { λ r. ⌜ r ≡ onLocator (λ (l : locators.Locator). withStatus l (Unverified (record { nonce = nonce; id = id; issued = time; resends = 0 }))) slot ⌝ }
 {
     let holding = slot.holding;
     match holding {
         Holding::Empty => slot,
         Holding::Held(l) => {
-            let check = Check { nonce, id };
+            let check = Check {
+                nonce,
+                id,
+                issued: time,
+                resends: 0,
+            };
             Slot {
                 holding: Holding::Held(slot::with_status(l, Status::Unverified(check))),
             }
@@ -138,11 +143,12 @@ fn deal(
     slots: [Slot; SLOT_COUNT],
     listed: [ListedLocator; SET_LIMIT],
     count: usize,
+    time: u64,
     next: u64,
     nonces: [u64; NONCE_COUNT],
 ) -> [Slot; SLOT_COUNT]
     requires { ⌜ next + rules.checkCount (take count listed) slots ≤ idLimit ⌝ }
-    ensures { λ r. ⌜ r ≡ rules.checked (take count listed) next nonces 0 slots ⌝ }
+    ensures { λ r. ⌜ r ≡ rules.checked (take count listed) time next nonces 0 slots ⌝ }
 {
     let offered = nonces;
     let mut held = slots;
@@ -153,7 +159,7 @@ fn deal(
         if awaits(slot, listed, count) {
             let nonce = offered[k];
             let id = next + k as u64;
-            held[i] = with_check(slot, nonce, id as u32);
+            held[i] = with_check(slot, nonce, id as u32, time);
             k = k + 1;
             i = i + 1;
         } else {
@@ -163,23 +169,24 @@ fn deal(
     held
 }
 
-// The slots with their new checks, or as they are where own Update IDs do not suffice (refusal 11).
+// The slots with their new checks, issued at the time, or as they are where own Update IDs do not suffice (refusal 11).
 pub fn give_checks(
     slots: [Slot; SLOT_COUNT],
     listed: [ListedLocator; SET_LIMIT],
     count: usize,
+    time: u64,
     next: u64,
     nonces: [u64; NONCE_COUNT],
 ) -> [Slot; SLOT_COUNT]
-    ensures { λ r. ⌜ r ≡ given (take count listed) next nonces slots ⌝ }
+    ensures { λ r. ⌜ r ≡ given (take count listed) time next nonces slots ⌝ }
 {
     // A slot gets at most one check: where there is an own Update ID for each slot, the checks need not be counted.
     if next <= ID_LIMIT - SLOT_COUNT as u64 {
-        return deal(slots, listed, count, next, nonces);
+        return deal(slots, listed, count, time, next, nonces);
     }
     let checks = count_checks(slots, listed, count);
     if judge::is_used_up(next, checks) {
         return slots;
     }
-    deal(slots, listed, count, next, nonces)
+    deal(slots, listed, count, time, next, nonces)
 }

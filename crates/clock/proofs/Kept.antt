@@ -1,19 +1,22 @@
 -- A tick keeps associations sound. Assumes nothing.
 use mathlib.Core.Path.{_∙_}
+use mathlib.Core.List.{List}
 use Prim.Native.Nat.{ℕ, _≤_, _<_}
 use lib.Dec.{leb, ltb}
-use lib.ListN.{length-map}
+use lib.ListN.{length, length-map}
 use native.Mathlib.Omega.{arith}
 use borrow.Author.Tests.{leb-false, ltb-false}
-use Rattle.boolean.proofs.Laws.{or-false-left, or-false-right, cond-all}
-use Rattle.credit.specs.Clock.{timeLimit, refusal12, ageings}
+use Rattle.boolean.proofs.Laws.{or-false-left, or-false-right}
+use Rattle.credit.specs.Clock.{timeLimit, ageings}
 use Rattle.credit.proofs.Ageing.{aged-at-most, last-at-most}
+use Rattle.slot.specs.Checks.{resendSlot}
 use Rattle.slot.specs.Expiry.{expireSlot}
-use Rattle.slots.proofs.Kept.{expired-clashing}
-use Rattle.association.specs.Form.{refusal0, accepted, refused}
+use Rattle.slots.specs.Rules.{expireAll}
+use Rattle.slots.proofs.Kept.{ticked-clashing, ticked-good}
 use Rattle.association.specs.declared.Association.{Association}
-use Rattle.association.proofs.Sound.{sound, not-refused, Formed, Keeps, Leaves}
-use Rattle.clock.specs.Ticks.{ticked, tickOf}
+use Rattle.association.proofs.Sound.{sound, not-refused, Formed, Keeps}
+use Rattle.clock.specs.Ticks.{ticked, Ticked, tickOf}
+use Rattle.clock.proofs.Ends.{tick-ends}
 
 ticked-formed : (a : Association) (t : ℕ) → Formed a → a .time ≤ t → t < timeLimit → Formed (ticked a t)
 ticked-formed a t p h k =
@@ -22,7 +25,7 @@ ticked-formed a t p h k =
     let l = s .credit in
     let g = s .aged in
     record {
-      whole = length-map (a .slots) (expireSlot t) ∙ p .whole;
+      whole = length-map (expireAll t (a .slots)) (resendSlot t) ∙ length-map (a .slots) (expireSlot t) ∙ p .whole;
       unrefused =
           not-refused (ticked a t)
           (record {
@@ -31,15 +34,14 @@ ticked-formed a t p h k =
             credit = omega arith;
             next = s .next;
             preferred = s .preferred;
-            apart = expired-clashing t (a .slots) (s .apart);
+            apart = ticked-clashing t (a .slots) (s .apart);
+            checks = ticked-good (a .time) t (a .slots) h (s .checks);
           });
     }
 
-pub tick-keeps : (t : ℕ) → Keeps (λ a. tickOf a t .association)
-unfolding tickOf
-tick-keeps t a p =
-    cond-all Leaves (refusal0 a) (refused 0 a) _ (λ e. p)
-    (λ e. cond-all Leaves (refusal12 (a .time) t) (refused 12 a) (accepted (ticked a t)) (λ e. p)
-    (λ e. ticked-formed a t p
-    (ltb-false t (a .time) (or-false-left (ltb t (a .time)) (leb timeLimit t) e))
-    (leb-false timeLimit t (or-false-right (ltb t (a .time)) (leb timeLimit t) e))))
+pub tick-keeps : (t : ℕ) (buffer : List ℕ) → Keeps (λ a. tickOf a t buffer .association)
+tick-keeps t buffer a p =
+    tick-ends (λ (h : Ticked). Formed (h .left)) a (λ n. p) t (length buffer)
+    (λ q. ticked-formed a t p
+    (ltb-false t (a .time) (or-false-left (ltb t (a .time)) (leb timeLimit t) (q .timely)))
+    (leb-false timeLimit t (or-false-right (ltb t (a .time)) (leb timeLimit t) (q .timely))))

@@ -13,13 +13,14 @@ use Rattle.packet.specs.Readings.{readingOf}
 use Rattle.slot.specs.declared.Status.{Status}
 use Rattle.slot.specs.declared.Status.the-variants.{Unverified, Active, Deprecated}
 use Rattle.slot.specs.Found.{statusIn, statusAt, isActive, isUnverified, foundAs}
-use Rattle.slots.proofs.Kept.{expired-statuses}
+use Rattle.slots.specs.Rules.{expireAll}
+use Rattle.slots.proofs.Kept.{expired-statuses, resent-statuses}
 use Rattle.path.specs.Choices.{pathOf}
 use Rattle.path.specs.declared.Path.{Path}
 use Rattle.path.specs.declared.Path.the-variants.{ToActive, ToUnverified, NoCarrier}
 use Rattle.path.proofs.Picked.{picked-active, picked-unverified}
 use Rattle.credit.specs.Credit.{refusal13, covers, credited}
-use Rattle.credit.specs.Clock.{refusal12, ageings}
+use Rattle.credit.specs.Clock.{ageings}
 use Rattle.credit.proofs.Covered.{covered-below}
 use Rattle.association.specs.Form.{refusal0, withCredit, accepted, refused}
 use Rattle.association.specs.Start.{noAssociation}
@@ -32,7 +33,9 @@ use Rattle.association.proofs.Started.{none-refused}
 use Rattle.payload.specs.Calls.{arrivalOf, sendOf, sendTo, granted, denied}
 use Rattle.payload.specs.declared.SendAnswer.{SendAnswer}
 use Rattle.payload.proofs.Kept.{arrival-keeps, send-keeps}
-use Rattle.clock.specs.Ticks.{ticked, tickOf}
+use Rattle.clock.specs.Ticks as ticks
+use Rattle.clock.proofs.Ends.{tick-ends}
+use Rattle.clock.proofs.Ends as clock-ends
 use Rattle.clock.proofs.Kept.{tick-keeps}
 use Rattle.reply_form.specs.Replies.{nonceCount}
 use Rattle.update.specs.declared.MessageOutcome.{MessageOutcome}
@@ -50,7 +53,7 @@ use Rattle.history.specs.Ledger.{held, entriesOf, lastOf}
 use Rattle.history.specs.Words.{isAuthentic, echoed, retires, taken}
 use Rattle.history.specs.Demand.{Demand1}
 use Rattle.history.proofs.Ledgers.{Funded, ageings-held, ageings-funded}
-use Rattle.history.proofs.Traces.{isHeeded, Traced, traced-unheeded, traced-still, traced-expired, traced-message}
+use Rattle.history.proofs.Traces.{isHeeded, Traced, traced-unheeded, traced-still, traced-expired, traced-resent, traced-message}
 
 -- ---- refusal 0
 -- "from a start on, no call yields such an association"
@@ -58,7 +61,7 @@ pub keeps : (c : Call) → Keeps (λ a. returned a c)
 keeps (message packet authentic nonces eight buffer) = message-keeps packet authentic nonces eight buffer
 keeps (arrival size) = arrival-keeps size
 keeps (send size) = send-keeps size
-keeps (tick time) = tick-keeps time
+keeps (tick time buffer) = tick-keeps time buffer
 keeps (announce list count inbound keymat buffer) = announcement-keeps list count inbound keymat buffer
 
 pub after-keeps : (cs : List Call) → Keeps (λ a. after a cs)
@@ -68,11 +71,11 @@ after-keeps (c ∷ cs) a p = after-keeps cs (returned a c) (keeps c a p)
 
 -- refusal 0 "comes first in every call but start"
 pub bad-refused : (a : Association) → refusal0 a ≡ true → (c : Call) → answers a c ≡ refusedBy (refusal 0)
-unfolding handled arrivalOf sendOf tickOf announcements.handled
+unfolding handled arrivalOf sendOf ticks.handled announcements.handled
 bad-refused a p (message packet authentic nonces eight buffer) = rw p
 bad-refused a p (arrival size) = rw p
 bad-refused a p (send size) = rw p
-bad-refused a p (tick time) = rw p
+bad-refused a p (tick time buffer) = rw p
 bad-refused a p (announce list count inbound keymat buffer) = rw p
 
 -- every call refuses what a refused start leaves
@@ -98,21 +101,21 @@ refused-entries : (last : ℕ) (a : Association) (c : Call) (r : Refusal) → en
 refused-entries last a (message packet authentic nonces eight buffer) r = refl
 refused-entries last a (arrival size) r = refl
 refused-entries last a (send size) r = refl
-refused-entries last a (tick time) r = refl
+refused-entries last a (tick time buffer) r = refl
 refused-entries last a (announce list count inbound keymat buffer) r = refl
 
 refused-last : (last : ℕ) (c : Call) (r : Refusal) → lastOf last c (refusedBy r) ≡ last
 refused-last last (message packet authentic nonces eight buffer) r = refl
 refused-last last (arrival size) r = refl
 refused-last last (send size) r = refl
-refused-last last (tick time) r = refl
+refused-last last (tick time buffer) r = refl
 refused-last last (announce list count inbound keymat buffer) r = refl
 
 refused-taken : (x : Address) (a : Association) (c : Call) (r : Refusal) → taken x a c (refusedBy r) ≡ none
 refused-taken x a (message packet authentic nonces eight buffer) r = refl
 refused-taken x a (arrival size) r = refl
 refused-taken x a (send size) r = refl
-refused-taken x a (tick time) r = refl
+refused-taken x a (tick time buffer) r = refl
 refused-taken x a (announce list count inbound keymat buffer) r = refl
 
 refused-did : (a : Association) (c : Call) (r : Refusal) → Did a c (refusedBy r) a
@@ -154,20 +157,21 @@ arrival-did a size =
     }))
 
 -- ---- a tick
-tick-did : (a : Association) (time : ℕ) → DidBy a (tick time) (tickOf a time)
-unfolding tickOf
-tick-did a time =
-    cond-all (DidBy a (tick time)) (refusal0 a) (refused 0 a) _ (λ e. refused-did a (tick time) (refusal 0))
-    (λ e. cond-all (DidBy a (tick time)) (refusal12 (a .time) time) (refused 12 a) (accepted (ticked a time))
-    (λ e. refused-did a (tick time) (refusal 12))
-    (λ e. record {
+tick-did : (a : Association) (time : ℕ) (buffer : List ℕ) → Did a (tick time buffer) (answers a (tick time buffer)) (returned a (tick time buffer))
+tick-did a time buffer =
+    tick-ends (λ (h : ticks.Ticked). Did a (tick time buffer) (ofOutcome (h .outcome)) (h .left)) a (λ n. refused-did a (tick time buffer) (refusal n)) time (length buffer)
+    (λ p. record {
       refused-same = λ e. apart e;
       last = refl;
       credit = ageings-held (ageings (a .aged) time) (a .credit);
       funded = ageings-funded (ageings (a .aged) time) (a .credit);
       authentic = λ n e f. no-echo n f;
-      traced = λ x. traced-expired (statusIn x (a .slots)) (statusIn x (ticked a time .slots)) true (expired-statuses x time (a .slots));
-    }))
+      traced =
+          λ x.
+          rw (resent-statuses x time (expireAll time (a .slots)))
+          (traced-resent time (statusIn x (a .slots)) (statusIn x (expireAll time (a .slots))) true
+          (traced-expired (statusIn x (a .slots)) (statusIn x (expireAll time (a .slots))) true (expired-statuses x time (a .slots))));
+    })
 
 -- ---- an announcement
 announce-did : (a : Association) (list : List OwnLocator) (count inbound keymat : ℕ) (buffer : List ℕ) →
@@ -261,11 +265,11 @@ pub did : (a : Association) (c : Call) → Did a c (answers a c) (returned a c)
 did a (message packet authentic nonces eight buffer) = message-did a packet authentic nonces eight buffer
 did a (arrival size) = arrival-did a size
 did a (send size) = send-did a size
-did a (tick time) = tick-did a time
+did a (tick time buffer) = tick-did a time buffer
 did a (announce list count inbound keymat buffer) = announce-did a list count inbound keymat buffer
 
 -- ---- demand 1
--- an announcement that is not accepted is refused
+-- a tick or an announcement that is not accepted is refused
 refused-is : (o : Outcome) → isAccepted (ofOutcome o) ≡ false → isRefused o ≡ true
 refused-is Accepted e = sym e
 refused-is (Refused r) e = refl
@@ -277,7 +281,8 @@ refused-unwritten a (message packet authentic nonces eight buffer) e =
     (declined-buffer a packet authentic nonces buffer (declined-is (handled a packet authentic nonces (length buffer) .outcome) e))
 refused-unwritten a (arrival size) e = refl
 refused-unwritten a (send size) e = refl
-refused-unwritten a (tick time) e = refl
+refused-unwritten a (tick time buffer) e =
+    ap (λ (b : List ℕ). b ∷ []) (clock-ends.refused-buffer a time buffer (refused-is (ticks.handled a time (length buffer) .outcome) e))
 refused-unwritten a (announce list count inbound keymat buffer) e =
     ap (λ (b : List ℕ). b ∷ [])
     (refused-buffer a list count inbound keymat buffer (refused-is (announcements.handled a list count inbound keymat (length buffer) .outcome) e))

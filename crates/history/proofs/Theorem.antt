@@ -22,6 +22,8 @@ use Rattle.slot.specs.declared.Check.{Check}
 use Rattle.slot.specs.declared.Status.{Status}
 use Rattle.slot.specs.declared.Status.the-variants.{Unverified, Active, Deprecated}
 use Rattle.slot.specs.Found.{statusIn, isActive, foundAs}
+use Rattle.slot.proofs.Carried.{Carries, carries-imply}
+use Rattle.slots.proofs.Each.{All, all-imply}
 use Rattle.readdress.specs.Steps.{isListed}
 use Rattle.readdress.proofs.Live.{isDead, nonceHeld}
 use Rattle.association.specs.declared.Association.{Association}
@@ -40,6 +42,7 @@ use Rattle.history.specs.Demand.{Verifies, ledgerOf, next, Demand3}
 use Rattle.history.proofs.Ledgers.{Funded, held-append, funded-join, funded-split, conserved, faded}
 use Rattle.history.proofs.Traces.{isHeeded, isEcho}
 use Rattle.history.proofs.Calls.{after-keeps, did}
+use Rattle.history.proofs.Issued.{Below, issued-ends}
 
 -- ---- the credit
 -- a whole sequence keeps the ledger, from any association
@@ -139,7 +142,7 @@ lists-live x a (message packet authentic nonces eight buffer) p =
     (λ q r s. message-lists x a packet (readingOf packet .message) (readingOf packet .listed) nonces (few-listed packet) p)
 lists-live x a (arrival size) p = λ h l. apart (sym l)
 lists-live x a (send size) p = λ h l. apart (sym l)
-lists-live x a (tick time) p = λ h l. apart (sym l)
+lists-live x a (tick time buffer) p = λ h l. apart (sym l)
 lists-live x a (announce list count inbound keymat buffer) p = λ h l. apart (sym l)
 
 not-dead : (o : Option Status) → isDead o ≡ false → (o ≢ none) × (o ≢ some Deprecated)
@@ -147,10 +150,11 @@ not-dead o p =
     (λ q. let z : true ≡ false = ap isDead (sym q) ∙ p in apart z, λ q. let z : true ≡ false = ap isDead (sym q) ∙ p in apart z)
 
 -- ---- the claim
--- where a sequence begins: credit 0, and no nonce outstanding. What an accepted start makes is such an association
+-- where a sequence begins: credit 0, and no nonce and no check outstanding. What an accepted start makes is such an association
 pub record Begins (a : Association) : Type 0 where
   pub no-credit : a .credit ≡ 0
   pub no-nonce : (x : Address) → nonceHeld (statusIn x (a .slots)) ≡ none
+  pub no-check : All (Carries (λ (k : Check). ⊥)) (a .slots)
   pub formed : Formed a
 
 pub demand-3-from : (a : Association) → Begins a → (cs : List Call) → Demand3 a cs
@@ -171,6 +175,11 @@ demand-3-from a b cs =
           verified-by x (history a cs) (after a cs) c u (ap (λ (o : Option ℕ). outstandingFrom x o (history a cs)) (sym (b .no-nonce x)) ∙ tracked x a cs) found;
       never-revived = λ c x found. revived-none x (after a cs) c (dead-found (statusIn x (after a cs .slots)) found);
       listed-held = λ c x accepted fresh listed. not-dead (leaves x (next a cs c)) (lists-live x (after a cs) c formed (rw (accepted, fresh)) listed);
+      given-up =
+          λ before between rest issuing ending id time split issues ticked late.
+          issued-ends a cs before between rest issuing ending id time
+          (all-imply (Carries (λ (k : Check). ⊥)) (Carries (Below (a .next))) (carries-imply (λ (k : Check). ⊥) (Below (a .next)) (λ k n. absurd n)) (a .slots) (b .no-check))
+          split issues ticked late;
       never-refused = formed .unrefused;
     }
   where
@@ -185,7 +194,7 @@ start-nonce false = refl
 -- an accepted start
 start-begins : (time outbound inbound : ℕ) (address : Address) (lifetime : ℕ) → startOf time outbound inbound address lifetime .outcome ≡ Accepted →
     Begins (startOf time outbound inbound address lifetime .association)
-unfolding startOf
+unfolding startOf All
 start-begins time outbound inbound address lifetime e = go (refusal16 time outbound inbound address lifetime) refl e
   where
     go : (b : Bool) → refusal16 time outbound inbound address lifetime ≡ b →
@@ -195,6 +204,7 @@ start-begins time outbound inbound address lifetime e = go (refusal16 time outbo
     go false p q = record {
       no-credit = refl;
       no-nonce = λ x. ap nonceHeld (started-status time outbound inbound address lifetime x) ∙ start-nonce (sameAddress x address);
+      no-check = (tt, (tt, (tt, (tt, (tt, (tt, (tt, (tt, tt))))))));
       formed = started-formed time outbound inbound address lifetime p;
     }
 

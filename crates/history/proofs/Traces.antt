@@ -1,7 +1,7 @@
 -- What a call does to one address, as demand 3 asks for it: the nonce that is outstanding, what becomes ACTIVE, and what never does. Assumes nothing.
 use mathlib.Core.Path.{_≡_, refl, sym, _∙_}
 use mathlib.Core.Bool.{Bool, true, false, not, cond, _&&_, _||_}
-use mathlib.Core.Option.{Option, none, some}
+use mathlib.Core.Option.{Option, none, some, Option·map}
 use mathlib.Core.Logic.{inl, inr}
 use mathlib.Core.List.{List}
 use Prim.Native.Nat.{ℕ}
@@ -16,10 +16,12 @@ use Rattle.packet.specs.declared.MoveFields.{MoveFields}
 use Rattle.packet.specs.Readings.{opaqueOf}
 use Rattle.packet.specs.declared.Message.{Message}
 use Rattle.packet.specs.declared.Message.the-variants.{Refused, Move, Reply, PeerCheck}
+use Rattle.check_times.specs.Times.{isDue}
 use Rattle.slot.specs.declared.Check.{Check}
 use Rattle.slot.specs.declared.Status.{Status}
 use Rattle.slot.specs.declared.Status.the-variants.{Unverified, Active, Deprecated}
 use Rattle.slot.specs.Found.{orElse, statusIn, isActive, foundAs}
+use Rattle.slot.specs.Checks.{resent, resendStatus}
 use Rattle.slot.proofs.Expired.{KeptOrDeprecated}
 use Rattle.readdress.specs.Echoes.{answers}
 use Rattle.readdress.specs.Steps.{isListed}
@@ -77,6 +79,17 @@ pub traced-expired : (o o′ : Option Status) (heeded : Bool) → KeptOrDeprecat
 traced-expired none o′ heeded p = rw p (traced-still none heeded)
 traced-expired (some s) o′ heeded (inl p) = rw p (traced-still (some s) heeded)
 traced-expired (some s) o′ heeded (inr p) = rw p (record { nonce = refl; revived = λ d. refl; verified = λ k q. sym (and-false heeded) })
+
+-- a resend leaves the nonce, and makes nothing ACTIVE
+pub traced-resent : (time : ℕ) (o o′ : Option Status) (heeded : Bool) → Traced o o′ none none false heeded → Traced o (Option·map (resendStatus time) o′) none none false heeded
+traced-resent time o none heeded p = p
+traced-resent time o (some (Unverified k)) heeded p = go (isDue (k .issued) (k .resends) time)
+  where
+    go : (b : Bool) → Traced o (some (cond b (Unverified (resent time k)) (Unverified k))) none none false heeded
+    go true = record { nonce = p .nonce; revived = p .revived; verified = p .verified }
+    go false = p
+traced-resent time o (some Active) heeded p = p
+traced-resent time o (some Deprecated) heeded p = p
 
 -- ---- a message
 -- the test of step 1 is that of the echoed nonce

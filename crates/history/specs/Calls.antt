@@ -11,7 +11,7 @@ use Rattle.association.specs.declared.Outcome.the-variants.{Accepted, Refused}
 use Rattle.payload.specs.declared.SendOutcome.{SendOutcome}
 use Rattle.payload.specs.declared.SendOutcome.the-variants.{Granted, Denied}
 use Rattle.payload.specs.Calls.{arrivalOf, sendOf}
-use Rattle.clock.specs.Ticks.{tickOf}
+use Rattle.clock.specs.Ticks as ticks
 use Rattle.reply_form.specs.Replies.{nonceCount}
 use Rattle.update.specs.declared.MessageOutcome.{MessageOutcome}
 use Rattle.update.specs.declared.MessageOutcome.the-variants.{Moved, Replied, Responded, Repeated, Declined}
@@ -19,13 +19,13 @@ use Rattle.update.specs.Messages.{messageOf, bufferAfter}
 use Rattle.announcement.specs.declared.OwnLocator.{OwnLocator}
 use Rattle.announcement.specs.Announcements as announcements
 
--- a call with its inputs. A message brings the packet's bytes, the mark, "eight nonces", and a lent reply buffer of any length; an announcement our list, how
--- many of its entries count, the new inbound SPI, the KEYMAT Index, and a lent buffer
+-- a call with its inputs. A message brings the packet's bytes, the mark, "eight nonces", and a lent reply buffer of any length; a tick its time and a lent
+-- buffer of any length; an announcement our list, how many of its entries count, the new inbound SPI, the KEYMAT Index, and a lent buffer
 pub data Call : Type 0 where
   message : (packet : List ℕ) (authentic : Bool) (nonces : List ℕ) (eight : length nonces ≡ nonceCount) (buffer : List ℕ) → Call
   arrival : (size : ℕ) → Call
   send : (size : ℕ) → Call
-  tick : (time : ℕ) → Call
+  tick : (time : ℕ) (buffer : List ℕ) → Call
   announce : (list : List OwnLocator) (count inbound keymat : ℕ) (buffer : List ℕ) → Call
 
 -- what a call answers: a refusal; that it is accepted; for a message, that it is a repeat; for a send, the slot that it is granted
@@ -58,7 +58,7 @@ abbrev pub answers : Association → Call → Answered
 answers a (message packet authentic nonces eight buffer) = ofMessage (messageOf a packet authentic nonces buffer .outcome)
 answers a (arrival size) = ofOutcome (arrivalOf a size .outcome)
 answers a (send size) = ofSend (sendOf a size .outcome)
-answers a (tick time) = ofOutcome (tickOf a time .outcome)
+answers a (tick time buffer) = ofOutcome (ticks.tickOf a time buffer .outcome)
 answers a (announce list count inbound keymat buffer) = ofOutcome (announcements.announcementOf a list count inbound keymat buffer .outcome)
 
 -- "the one returned": the association after the call
@@ -66,15 +66,15 @@ abbrev pub returned : Association → Call → Association
 returned a (message packet authentic nonces eight buffer) = messageOf a packet authentic nonces buffer .association
 returned a (arrival size) = arrivalOf a size .association
 returned a (send size) = sendOf a size .association
-returned a (tick time) = tickOf a time .association
+returned a (tick time buffer) = ticks.tickOf a time buffer .association
 returned a (announce list count inbound keymat buffer) = announcements.announcementOf a list count inbound keymat buffer .association
 
--- the buffers that the host lends to the call: a message's "reply buffer", and an announcement's "lent buffer"
+-- the buffers that the host lends to the call: a message's "reply buffer", a tick's "320-byte buffer", and an announcement's "lent buffer"
 abbrev pub lent : Call → List (List ℕ)
 lent (message packet authentic nonces eight buffer) = buffer ∷ []
 lent (arrival size) = []
 lent (send size) = []
-lent (tick time) = []
+lent (tick time buffer) = buffer ∷ []
 lent (announce list count inbound keymat buffer) = buffer ∷ []
 
 -- what they hold after the call
@@ -82,7 +82,7 @@ abbrev pub lentAfter : Association → Call → List (List ℕ)
 lentAfter a (message packet authentic nonces eight buffer) = bufferAfter a packet authentic nonces buffer ∷ []
 lentAfter a (arrival size) = []
 lentAfter a (send size) = []
-lentAfter a (tick time) = []
+lentAfter a (tick time buffer) = ticks.bufferAfter a time buffer ∷ []
 lentAfter a (announce list count inbound keymat buffer) = announcements.bufferAfter a list count inbound keymat buffer ∷ []
 
 -- "Accepted: answered without a refusal number". "A repeat is answered Repeated."

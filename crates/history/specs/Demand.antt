@@ -1,13 +1,14 @@
 -- Demands 1 and 3 as claims, in the users' words, which stand in quotation marks; what is document 01's says so. `proofs/Calls.antt` proves demand 1 of
 -- every call, and `proofs/Theorem.antt` demand 3 of every sequence from an accepted start.
-use Prim.Native.Nat.{ℕ, _*_, _^_, _≤_}
+use Prim.Native.Nat.{ℕ, _+_, _*_, _^_, _≤_}
 use mathlib.Core.Path.{_≡_}
 use mathlib.Core.Bool.{true, false}
 use mathlib.Core.Option.{none, some}
 use mathlib.Core.Logic.{_≢_, _⊎_, _↔_}
-use mathlib.Core.List.{List, _++_}
+use mathlib.Core.List.{List, _∷_, _++_}
 use Rattle.refusal.specs.declared.Refusal.{Refusal}
 use Rattle.address.specs.declared.Address.{Address}
+use Rattle.check_times.specs.Times.{checkLife}
 use Rattle.slot.specs.declared.Check.{Check}
 use Rattle.slot.specs.declared.Status.the-variants.{Unverified, Active, Deprecated}
 use Rattle.association.specs.declared.Association.{Association}
@@ -15,6 +16,7 @@ use Rattle.association.specs.Form.{refusal0}
 use Rattle.history.specs.Calls.{Call, refusedBy, answers, returned, lent, lentAfter, isAccepted, isRepeat, Step, stepOf, history, after}
 use Rattle.history.specs.Ledger.{Entry, ledger, creditHeld, arrivedIn, grantedIn, ageingsIn, NoArrival}
 use Rattle.history.specs.Words.{finds, leaves, isAuthentic, echoed, lists, retires, outstanding}
+use Rattle.history.specs.Issued.{nextId, Issues, tickedAt, lastTick, isOutstanding}
 
 -- Demand 1, of the call c where it is refused: "A refused call names its reason, gives back the association it was given, and writes nothing in the reply
 -- buffer." "No call expects its caller to have looked first.": the association a is any
@@ -74,5 +76,11 @@ pub record Demand3 (a : Association) (cs : List Call) : Type 0 where
   -- Document 01 of step 5: "Room is always found.": an accepted Move leaves every address that it lists ACTIVE or UNVERIFIED
   pub listed-held : (c : Call) (x : Address) → isAccepted (next a cs c .answered) ≡ true → isRepeat (next a cs c .answered) ≡ false → lists x c ≡ true →
       (leaves x (next a cs c) ≢ none) × (leaves x (next a cs c) ≢ some Deprecated)
+  -- Order 4: "no check is still outstanding after that tick", the first accepted one "16 or more seconds after issue". The check of this Update ID is issued by the
+  -- Move `issuing`, at the time of the last accepted tick before it, or the stored time at the beginning; `ending` is an accepted tick, at `time`; and `rest` is any
+  -- calls that follow it
+  pub given-up : (before between rest : List Step) (issuing ending : Step) (id time : ℕ) → history a cs ≡ before ++ (issuing ∷ (between ++ (ending ∷ rest))) →
+      Issues id (nextId (a .next) before) issuing → tickedAt (ending .call) (ending .answered) ≡ some time → lastTick (a .time) before + checkLife ≤ time →
+      isOutstanding id (after a cs) ≡ false
   -- Document 01 of refusal 0: "from a start on, no call yields such an association"
   pub never-refused : refusal0 (after a cs) ≡ false

@@ -80,6 +80,10 @@ marked authentic packet nonce = message packet authentic (map (λ (k : ℕ). non
 abbrev pub brings : (packet : List ℕ) → (nonce : ℕ) → Call
 brings packet nonce = marked true packet nonce
 
+-- a tick with a buffer of 320 bytes
+abbrev pub tickAt : (time : ℕ) → Call
+tickAt time = tick time (replicate 320 0)
+
 -- the first Move lists addresses 1 and 2, and address 2 takes nonce 0x51; the second lists address 1 alone; the third lists both, and
 -- address 2 takes nonce 0x71 where the second retired it
 abbrev pub first : Call
@@ -107,9 +111,9 @@ address n = record { high = 0x20010db800000000; low = n }
 abbrev until : (expiry n : ℕ) → Status → Slot
 until expiry n s = slotOf (record { address = address n; traffic = 0; expiry = expiry; status = s })
 
--- UNVERIFIED, with this check
+-- UNVERIFIED, with this check, issued at 102
 abbrev waiting : (nonce id : ℕ) → Status
-waiting nonce id = Unverified (record { nonce = nonce; id = id })
+waiting nonce id = Unverified (record { nonce = nonce; id = id; issued = 102; resends = 0 })
 
 -- at 102, where the last ageing was at 100
 abbrev with : (credit next : ℕ) → PeerId → List Slot → Association
@@ -146,24 +150,30 @@ outcomes : (map ofOutcome (Accepted ∷ Refused (refusal 12) ∷ []) ≡ done �
     × (map isRepeat (done ∷ repeated ∷ grantedTo 0 ∷ refusedBy (refusal 0) ∷ []) ≡ false ∷ true ∷ false ∷ false ∷ [])
 outcomes = (refl, refl, refl, refl, refl)
 
--- the buffers that calls are lent, and after them: the reply to the first Move has a check for address 2; a message that is not authentic is refused
-buffers : let calls = first ∷ marked false (moveTwo "00002001" "00000000") 0x51 ∷ arrival 5 ∷ send 5 ∷ tick 103 ∷ [] in
-    (map lent calls ≡ (replicate 384 0 ∷ []) ∷ (replicate 384 0 ∷ []) ∷ [] ∷ [] ∷ [] ∷ [])
+-- the buffers that calls are lent, and after them: the reply to the first Move has a check for address 2, which a tick a second later sends again; a message that
+-- is not authentic is refused, and so are a tick before the stored time and one with 319 bytes
+buffers : let calls = first ∷ marked false (moveTwo "00002001" "00000000") 0x51 ∷ arrival 5 ∷ send 5 ∷ tickAt 103 ∷ [] in
+    (map lent calls ≡ (replicate 384 0 ∷ []) ∷ (replicate 384 0 ∷ []) ∷ [] ∷ [] ∷ (replicate 320 0 ∷ []) ∷ [])
     × (map (lentAfter begun) calls
     ≡ ((hex "0041000c 00000000 00001001 00001001 01810004 00000000 01c10004 00000000 03810008 00000000 00000051 00000000" ++ replicate 336 0) ∷ [])
     ∷ (replicate 384 0 ∷ [])
-    ∷ [] ∷ [] ∷ [] ∷ [])
+    ∷ [] ∷ [] ∷ (replicate 320 0 ∷ []) ∷ [])
+    × (map (lentAfter moved) (tickAt 103 ∷ tickAt 101 ∷ tick 103 (replicate 319 0) ∷ [])
+    ≡ ((hex "0041000c 00000000 00001001 00001001 01810004 00000000 03810008 00000000 00000051 00000000" ++ replicate 280 0) ∷ [])
+    ∷ (replicate 320 0 ∷ [])
+    ∷ (replicate 319 0 ∷ [])
+    ∷ [])
 unfolding sequences
-buffers = (refl, refl)
+buffers = (refl, refl, refl)
 
 -- each call, accepted and refused: a refused one changes nothing, and neither does a repeat
-made : (map (answers begun) (first ∷ marked false (reply "00000051") 1 ∷ arrival 5 ∷ arrival 0 ∷ send 5 ∷ send 0 ∷ tick 103 ∷ tick 101 ∷ [])
+made : (map (answers begun) (first ∷ marked false (reply "00000051") 1 ∷ arrival 5 ∷ arrival 0 ∷ send 5 ∷ send 0 ∷ tickAt 103 ∷ tickAt 101 ∷ [])
     ≡ done ∷ refusedBy (refusal 2) ∷ done ∷ refusedBy (refusal 13) ∷ grantedTo 0 ∷ refusedBy (refusal 13) ∷ done ∷ refusedBy (refusal 12) ∷ [])
-    × (map (returned begun) (first ∷ marked false (reply "00000051") 1 ∷ arrival 5 ∷ arrival 0 ∷ send 5 ∷ send 0 ∷ tick 102 ∷ tick 101 ∷ [])
+    × (map (returned begun) (first ∷ marked false (reply "00000051") 1 ∷ arrival 5 ∷ arrival 0 ∷ send 5 ∷ send 0 ∷ tickAt 102 ∷ tickAt 101 ∷ [])
     ≡ moved ∷ begun ∷ with 5 0 NoneSeen (until 160 1 Active ∷ replicate 7 emptySlot) ∷ replicate 5 begun)
     × (answers moved first ≡ repeated)
     × (returned moved first ≡ moved)
-    × (returned moved (tick 104) .time ≡ 104)
+    × (returned moved (tickAt 104) .time ≡ 104)
 unfolding sequences
 made = (refl, refl, refl, refl, refl)
 
@@ -186,25 +196,25 @@ grants : (map (λ (n : ℕ). entriesOf 100 mixed (send 7) (grantedTo n)) (0 ∷ 
     × (map (entriesOf 100 mixed (send 7)) (refusedBy (refusal 15) ∷ done ∷ repeated ∷ []) ≡ replicate 3 [])
 grants = (refl, refl)
 
--- an accepted arrival, a tick 5 seconds after the last ageing, one before that and one 17 seconds after it; refused ones put nothing in the ledger, and a message
+-- an accepted arrival, a tickAt 5 seconds after the last ageing, one before that and one 17 seconds after it; refused ones put nothing in the ledger, and a message
 -- never does
 entries : (map (entriesOf 100 begun (arrival 7)) (done ∷ refusedBy (refusal 13) ∷ []) ≡ (arrived 7 ∷ []) ∷ [] ∷ [])
-    × (map (entriesOf 100 begun (tick 105)) (done ∷ refusedBy (refusal 12) ∷ []) ≡ (ageing ∷ []) ∷ [] ∷ [])
-    × (map (λ (t : ℕ). entriesOf 100 begun (tick t) done) (104 ∷ 117 ∷ []) ≡ [] ∷ replicate 3 ageing ∷ [])
+    × (map (entriesOf 100 begun (tickAt 105)) (done ∷ refusedBy (refusal 12) ∷ []) ≡ (ageing ∷ []) ∷ [] ∷ [])
+    × (map (λ (t : ℕ). entriesOf 100 begun (tickAt t) done) (104 ∷ 117 ∷ []) ≡ [] ∷ replicate 3 ageing ∷ [])
     × (map (entriesOf 100 begun first) (done ∷ repeated ∷ refusedBy (refusal 2) ∷ []) ≡ replicate 3 [])
 entries = (refl, refl, refl, refl)
 
 -- the last ageing moves by an accepted tick alone, and only by one that ages
-last-ageings : (map (λ (c : Call). lastOf 100 c done) (tick 104 ∷ tick 105 ∷ tick 117 ∷ first ∷ arrival 7 ∷ send 7 ∷ [])
+last-ageings : (map (λ (c : Call). lastOf 100 c done) (tickAt 104 ∷ tickAt 105 ∷ tickAt 117 ∷ first ∷ arrival 7 ∷ send 7 ∷ [])
     ≡ 100 ∷ 105 ∷ 115 ∷ 100 ∷ 100 ∷ 100 ∷ [])
-    × (lastOf 100 (tick 117) (refusedBy (refusal 12)) ≡ 100)
+    × (lastOf 100 (tickAt 117) (refusedBy (refusal 12)) ≡ 100)
 last-ageings = (refl, refl)
 
 -- "reckoned from the time of last ageing held at the sequence's beginning", 100, "and from the accepted ticks' times": the ticks at 104 and 109 age
 -- nothing, those at 105 and 110 do, and one at 106 that is refused does not count; one at 117 ages three times, and what it leaves counts at 120
-ledgers : (ledgerOf begun (tick 104 ∷ tick 105 ∷ arrival 9 ∷ tick 109 ∷ tick 106 ∷ tick 110 ∷ []) ≡ ageing ∷ arrived 9 ∷ ageing ∷ [])
-    × (ledger 103 (history begun (tick 105 ∷ tick 107 ∷ tick 108 ∷ [])) ≡ ageing ∷ [])
-    × (ledgerOf begun (tick 117 ∷ arrival 8 ∷ tick 119 ∷ arrival 9 ∷ tick 120 ∷ []) ≡ ageing ∷ ageing ∷ ageing ∷ arrived 8 ∷ arrived 9 ∷ ageing ∷ [])
+ledgers : (ledgerOf begun (tickAt 104 ∷ tickAt 105 ∷ arrival 9 ∷ tickAt 109 ∷ tickAt 106 ∷ tickAt 110 ∷ []) ≡ ageing ∷ arrived 9 ∷ ageing ∷ [])
+    × (ledger 103 (history begun (tickAt 105 ∷ tickAt 107 ∷ tickAt 108 ∷ [])) ≡ ageing ∷ [])
+    × (ledgerOf begun (tickAt 117 ∷ arrival 8 ∷ tickAt 119 ∷ arrival 9 ∷ tickAt 120 ∷ []) ≡ ageing ∷ ageing ∷ ageing ∷ arrived 8 ∷ arrived 9 ∷ ageing ∷ [])
     × (ledgerOf begun [] ≡ [])
 unfolding sequences
 ledgers = (refl, refl, refl, refl)
@@ -241,21 +251,21 @@ found-and-left = (refl, refl)
 
 -- "marked authentic": messages with the mark and without it, and no other call
 authentic : (map (λ (mark : Bool). isAuthentic (marked mark (reply "00000051") 1)) (true ∷ false ∷ []) ≡ true ∷ false ∷ [])
-    × (map isAuthentic (arrival 1 ∷ send 1 ∷ tick 103 ∷ []) ≡ replicate 3 false)
+    × (map isAuthentic (arrival 1 ∷ send 1 ∷ tickAt 103 ∷ []) ≡ replicate 3 false)
 authentic = (refl, refl)
 
 -- the nonce that a call echoes: a Move, a Reply; none where there is no echo response of 8 bytes, in a packet that is refused, and in another call
 echoes : (map (λ (s : List ℕ). echoed (brings s 1))
     (echoingOne "00002001" "00000001" "00000051" ∷ reply "00000052" ∷ moveOne "00002001" "00000001" ∷ shortReply ∷ malformed ∷ [])
     ≡ some 0x51 ∷ some 0x52 ∷ none ∷ none ∷ none ∷ [])
-    × (map echoed (arrival 1 ∷ send 1 ∷ tick 103 ∷ []) ≡ replicate 3 none)
+    × (map echoed (arrival 1 ∷ send 1 ∷ tickAt 103 ∷ []) ≡ replicate 3 none)
 unfolding sequences
 echoes = (refl, refl)
 
 -- the addresses that a call lists: of 1, 2 and 3 a Move of address 1, a Move of both; no other call lists any
 listing : (map (λ (n : ℕ). lists (address n) second) (1 ∷ 2 ∷ 3 ∷ []) ≡ true ∷ false ∷ false ∷ [])
     × (map (λ (n : ℕ). lists (address n) first) (1 ∷ 2 ∷ 3 ∷ []) ≡ true ∷ true ∷ false ∷ [])
-    × (map (lists (address 1)) (answering "00000051" ∷ brings malformed 1 ∷ arrival 1 ∷ send 1 ∷ tick 103 ∷ []) ≡ replicate 5 false)
+    × (map (lists (address 1)) (answering "00000051" ∷ brings malformed 1 ∷ arrival 1 ∷ send 1 ∷ tickAt 103 ∷ []) ≡ replicate 5 false)
     × (lists (record { high = 0; low = 0 }) first ≡ false)
 unfolding sequences
 listing = (refl, refl, refl, refl)
@@ -264,7 +274,7 @@ listing = (refl, refl, refl, refl)
 -- 2 the Moves of both and of address 1, and the Move of both with a new SPI; no other call
 retiring : (map (λ (c : Call). retires (address 1) moved c) (third ∷ second ∷ rebinding ∷ []) ≡ false ∷ false ∷ true ∷ [])
     × (map (λ (c : Call). retires (address 2) moved c) (third ∷ second ∷ rebinding ∷ []) ≡ false ∷ true ∷ true ∷ [])
-    × (map (retires (address 2) moved) (answering "00000051" ∷ brings malformed 1 ∷ arrival 1 ∷ send 1 ∷ tick 103 ∷ []) ≡ replicate 5 false)
+    × (map (retires (address 2) moved) (answering "00000051" ∷ brings malformed 1 ∷ arrival 1 ∷ send 1 ∷ tickAt 103 ∷ []) ≡ replicate 5 false)
 unfolding sequences
 retiring = (refl, refl, refl)
 
@@ -273,7 +283,7 @@ retiring = (refl, refl, refl)
 takes : (map (λ (n : ℕ). taken (address n) begun first done) (1 ∷ 2 ∷ 3 ∷ []) ≡ none ∷ some 0x51 ∷ none ∷ [])
     × (map (λ (n : ℕ). taken (address n) moved rebinding done) (1 ∷ 2 ∷ 3 ∷ []) ≡ some 0x61 ∷ some 0x62 ∷ none ∷ [])
     × (map (taken (address 2) begun first) (repeated ∷ refusedBy (refusal 2) ∷ []) ≡ none ∷ none ∷ [])
-    × (map (λ (c : Call). taken (address 2) begun c done) (answering "00000051" ∷ brings malformed 1 ∷ arrival 1 ∷ send 1 ∷ tick 103 ∷ [])
+    × (map (λ (c : Call). taken (address 2) begun c done) (answering "00000051" ∷ brings malformed 1 ∷ arrival 1 ∷ send 1 ∷ tickAt 103 ∷ [])
     ≡ replicate 5 none)
 unfolding sequences
 takes = (refl, refl, refl, refl)
@@ -283,16 +293,16 @@ abbrev outstandingAfter : List Call → Option ℕ
 outstandingAfter cs = outstanding (address 2) (history begun cs)
 
 -- it stays through calls that leave the address UNVERIFIED, also a repeat that offers other nonces, a Move that lists it and a refused one; it goes
--- with a Move that does not list it, its answer, and its expiry; a Move that gives a new check brings another
+-- with a Move that does not list it, its answer, and a tick that gives its check up; a Move that gives a new check brings another
 pending : (map outstandingAfter
     ((first ∷ [])
-    ∷ (first ∷ arrival 9 ∷ send 5 ∷ tick 161 ∷ [])
+    ∷ (first ∷ arrival 9 ∷ send 5 ∷ tickAt 103 ∷ tickAt 117 ∷ [])
     ∷ (first ∷ brings (moveTwo "00002001" "00000000") 0x91 ∷ [])
     ∷ (first ∷ third ∷ [])
     ∷ (first ∷ answering "00000052" ∷ [])
     ∷ [])
     ≡ replicate 5 (some 0x51))
-    × (map outstandingAfter ([] ∷ (first ∷ second ∷ []) ∷ (first ∷ answering "00000051" ∷ []) ∷ (first ∷ tick 162 ∷ []) ∷ []) ≡ replicate 4 none)
+    × (map outstandingAfter ([] ∷ (first ∷ second ∷ []) ∷ (first ∷ answering "00000051" ∷ []) ∷ (first ∷ tickAt 118 ∷ []) ∷ []) ≡ replicate 4 none)
     × (map outstandingAfter ((first ∷ second ∷ third ∷ []) ∷ (first ∷ rebinding ∷ []) ∷ []) ≡ some 0x71 ∷ some 0x62 ∷ [])
     × (outstanding (address 1) (history begun (first ∷ rebinding ∷ [])) ≡ some 0x61)
 unfolding sequences

@@ -11,11 +11,11 @@ use Rattle.refusal.specs.Table.{refusal}
 use Rattle.slot.specs.declared.Status.the-variants.{Active, Deprecated}
 use Rattle.association.specs.declared.Association.{Association}
 use Rattle.association.specs.Form.{refusal0}
-use Rattle.history.specs.Calls.{Call, arrival, send, tick, Answered, refusedBy, done, repeated, returned, lentAfter, Step, stepOf, history, after}
+use Rattle.history.specs.Calls.{Call, arrival, send, Answered, refusedBy, done, repeated, returned, lentAfter, Step, stepOf, history, after}
 use Rattle.history.specs.Ledger.{arrived, granted, ageing}
 use Rattle.history.specs.Words.{leaves}
 use Rattle.history.specs.Demand.{Demand1, Verifies, Demand3, next}
-use Rattle.history.specs.Examples.{echoingOne, echoingTwo, moveTwo, reply, marked, brings, first, second, answering, address, begun}
+use Rattle.history.specs.Examples.{echoingOne, echoingTwo, moveTwo, reply, marked, brings, tickAt, first, second, answering, address, begun}
 use Rattle.history.specs.ExamplesUnfolded.{sequences}
 
 -- ---- a call that verifies
@@ -92,7 +92,7 @@ after-an-arrival d = d .credit-held
 -- 1,000 bytes arrive; a new SPI leaves address 1 UNVERIFIED; 100 are granted; two ageings; 500 are granted, and 1,500 arrive
 abbrev spending : List Call
 spending =
-    arrival 1000 ∷ brings (moveTwo "00002002" "00000000") 0x51 ∷ send 100 ∷ tick 105 ∷ tick 110 ∷ send 500 ∷ send 90 ∷ arrival 1500 ∷ []
+    arrival 1000 ∷ brings (moveTwo "00002002" "00000000") 0x51 ∷ send 100 ∷ tickAt 105 ∷ tickAt 110 ∷ send 500 ∷ send 90 ∷ arrival 1500 ∷ []
 
 -- "The bytes granted to UNVERIFIED addresses add up to no more than those of the arrivals accepted so far."
 sums : Demand3 begun spending → 690 ≤ 2500
@@ -108,9 +108,9 @@ decays d = (
   d .decayed (arrived 1000 ∷ granted 100 ∷ ageing ∷ []) (ageing ∷ []) (granted 500 ∷ granted 90 ∷ []) (arrived 1500 ∷ []) refl tt tt,
 )
 
--- the same with one tick 17 seconds after the last ageing, which "holds three ageings": 600 bytes are granted of the 669 that it leaves of 1,000
+-- the same with one tickAt 17 seconds after the last ageing, which "holds three ageings": 600 bytes are granted of the 669 that it leaves of 1,000
 abbrev silent : List Call
-silent = arrival 1000 ∷ brings (moveTwo "00002002" "00000000") 0x51 ∷ tick 117 ∷ send 600 ∷ []
+silent = arrival 1000 ∷ brings (moveTwo "00002002" "00000000") 0x51 ∷ tickAt 117 ∷ send 600 ∷ []
 
 -- "Each whole 5 seconds is one ageing for demand 3's k.": all three, 512 times 600 and 343 times 1,000; the last two, 64 times 600 and 49 times 875; the last
 decays-in-a-tick : Demand3 begun silent → (307200 ≤ 343000) × (38400 ≤ 42875) × (4800 ≤ 5355)
@@ -126,7 +126,7 @@ exactly : (c : Call) → Demand3 begun (first ∷ []) →
     (leaves (address 2) (next begun (first ∷ []) c) ≡ some Active → Verifies (address 2) before (next begun (first ∷ []) c))
     × (Verifies (address 2) before (next begun (first ∷ []) c) → leaves (address 2) (next begun (first ∷ []) c) ≡ some Active)
 unfolding sequences
-exactly c d = d .verified-exactly c (address 2) (record { nonce = 0x51; id = 0 }) refl
+exactly c d = d .verified-exactly c (address 2) (record { nonce = 0x51; id = 0; issued = 102; resends = 0 }) refl
 
 -- "No call makes an address ACTIVE that it finds DEPRECATED or not held.": address 2 after the second Move, and address 3
 never : (c : Call) → Demand3 begun (first ∷ second ∷ []) →

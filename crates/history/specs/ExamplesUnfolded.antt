@@ -20,7 +20,8 @@ use Rattle.credit.specs.Clock.{agedBy}
 use Rattle.association.specs.Form.{refusal0}
 use Rattle.association.specs.Start.{startOf}
 use Rattle.payload.specs.Calls.{arrivalOf, sendOf}
-use Rattle.clock.specs.Ticks.{tickOf}
+use Rattle.resend.specs.Resends.{resentBytes}
+use Rattle.clock.specs.Ticks as ticks
 use Rattle.readdress.specs.Echoes.{verifyAll}
 use Rattle.readdress.specs.Steps.{rebind, entryFor, renewAll, retireAll, placeAll, markedSlot}
 use Rattle.readdress.specs.Checks.{checkCount, checked, checkFor, twice}
@@ -32,17 +33,18 @@ use Rattle.announcement.specs.Announcements as announcements
 use Rattle.history.specs.Calls.{history, after}
 use Rattle.history.specs.Ledger.{ledger, held, arrivedIn, grantedIn, ageingsIn, NoArrival}
 use Rattle.history.specs.Words.{outstandingFrom}
+use Rattle.history.specs.Issued.{nextId, lastTick}
 
 -- to unfold this is to unfold whatever its own line names; its value means nothing
 unfoldable pub calls : ℕ
 unfolding
     records some bytesOf legal refusedType wrongLength parameterBytes falls occurs illForm sets.twice sets.marks isMove isReply isCheck opaqueOf kindOf readingOf
-    statusIn clash clashing lowest pathOf agedBy refusal0 startOf arrivalOf sendOf tickOf verifyAll rebind entryFor renewAll retireAll placeAll
+    statusIn clash clashing lowest pathOf agedBy refusal0 startOf arrivalOf sendOf resentBytes ticks.handled verifyAll rebind entryFor renewAll retireAll placeAll
     markedSlot checkCount checked checkFor twice settled placed checksBytes moveBytes responseBytes afterMove handleReply handleMove handleCheck handled
     entryBytes setBody announcementBytes announcements.afterAnnouncement announcements.handled
 calls = 0
 
 -- the same, for sequences of calls
 unfoldable pub sequences : ℕ
-unfolding calls history after ledger held arrivedIn grantedIn ageingsIn NoArrival outstandingFrom
+unfolding calls history after ledger held arrivedIn grantedIn ageingsIn NoArrival outstandingFrom nextId lastTick
 sequences = 0

@@ -29,7 +29,7 @@ abbrev pub entriesOf : (last : ℕ) → (found : Association) → Call → Answe
 entriesOf last found (message packet authentic nonces eight buffer) r = []
 entriesOf last found (arrival size) r = cond (isAccepted r) (arrived size ∷ []) []
 entriesOf last found (send size) r = grantOf found size r
-entriesOf last found (tick time) r = cond (isAccepted r) (replicate (ageings last time) ageing) []
+entriesOf last found (tick time buffer) r = cond (isAccepted r) (replicate (ageings last time) ageing) []
 entriesOf last found (announce list count inbound keymat buffer) r = []
 
 -- the time of the last ageing after a call: it moves by the clock rule and "the accepted ticks' times"
@@ -37,7 +37,7 @@ abbrev pub lastOf : (last : ℕ) → Call → Answered → ℕ
 lastOf last (message packet authentic nonces eight buffer) r = last
 lastOf last (arrival size) r = last
 lastOf last (send size) r = last
-lastOf last (tick time) r = cond (isAccepted r) (lastAgeing last time) last
+lastOf last (tick time buffer) r = cond (isAccepted r) (lastAgeing last time) last
 lastOf last (announce list count inbound keymat buffer) r = last
 
 -- the ledger of a history, "reckoned from the time of last ageing held at the sequence's beginning"

@@ -1,6 +1,7 @@
 pub mod Calls
 pub mod Ledger
 pub mod Words
+pub mod Issued
 pub mod Demand
 pub mod ExamplesUnfolded
 pub mod Examples

@@ -33,7 +33,7 @@ abbrev pub isAuthentic : Call → Bool
 isAuthentic (message packet authentic nonces eight buffer) = authentic
 isAuthentic (arrival size) = false
 isAuthentic (send size) = false
-isAuthentic (tick time) = false
+isAuthentic (tick time buffer) = false
 isAuthentic (announce list count inbound keymat buffer) = false
 
 -- ---- what a message echoes
@@ -55,7 +55,7 @@ abbrev pub echoed : Call → Option ℕ
 echoed (message packet authentic nonces eight buffer) = echoIn (readingOf packet .message)
 echoed (arrival size) = none
 echoed (send size) = none
-echoed (tick time) = none
+echoed (tick time buffer) = none
 echoed (announce list count inbound keymat buffer) = none
 
 -- ---- what a Move lists and retires
@@ -71,7 +71,7 @@ abbrev pub lists : Address → Call → Bool
 lists x (message packet authentic nonces eight buffer) = isListed x (setIn (readingOf packet .message) (readingOf packet .listed))
 lists x (arrival size) = false
 lists x (send size) = false
-lists x (tick time) = false
+lists x (tick time buffer) = false
 lists x (announce list count inbound keymat buffer) = false
 
 -- "A Move retires an address if NEW SPI is not the outbound SPI it finds, or its set lacks the address. A Reply retires none."
@@ -86,7 +86,7 @@ abbrev pub retires : Address → (found : Association) → Call → Bool
 retires x found (message packet authentic nonces eight buffer) = retiredBy x found (readingOf packet .message) (readingOf packet .listed)
 retires x found (arrival size) = false
 retires x found (send size) = false
-retires x found (tick time) = false
+retires x found (tick time buffer) = false
 retires x found (announce list count inbound keymat buffer) = false
 
 -- ---- the nonce outstanding
@@ -104,7 +104,7 @@ taken x found (message packet authentic nonces eight buffer) r =
     cond (isAccepted r && not (isRepeat r)) (takenBy x found (readingOf packet .message) (readingOf packet .listed) nonces) none
 taken x found (arrival size) r = none
 taken x found (send size) r = none
-taken x found (tick time) r = none
+taken x found (tick time buffer) r = none
 taken x found (announce list count inbound keymat buffer) r = none
 
 -- "while that Move and every call since left it UNVERIFIED"

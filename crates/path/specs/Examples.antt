@@ -16,7 +16,7 @@ abbrev holding : (traffic : ℕ) → Status → Slot
 holding traffic s = slotOf (record { address = record { high = 1; low = 1 }; traffic = traffic; expiry = 160; status = s })
 
 abbrev checked : Status
-checked = Unverified (record { nonce = 7; id = 0 })
+checked = Unverified (record { nonce = 7; id = 0; issued = 100; resends = 0 })
 
 -- slot 0 is UNVERIFIED, 1 is ACTIVE for signalling alone, 2 is UNVERIFIED, 3 and 4 are ACTIVE, 5 is DEPRECATED
 abbrev mixed : List Slot

@@ -23,7 +23,7 @@ abbrev holding : (low traffic : ℕ) → Status → Slot
 holding low traffic s = slotOf (record { address = record { high = 0x20010db800000000; low = low }; traffic = traffic; expiry = 160; status = s })
 
 abbrev checked : Status
-checked = Unverified (record { nonce = 7; id = 0 })
+checked = Unverified (record { nonce = 7; id = 0; issued = 100; resends = 0 })
 
 -- at time 100, with a credit, the last ageing at 97, and two slots that hold something
 abbrev with : (credit : ℕ) → Slot → Slot → Association

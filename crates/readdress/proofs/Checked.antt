@@ -30,38 +30,38 @@ use Rattle.readdress.proofs.Live.{live}
 
 -- ---- the status of an address
 -- it is UNVERIFIED with the check that the address gets, or else as it was
-module _ (x : Address) (listed : List ListedLocator) (next : ℕ) (nonces : List ℕ) where
-  held-status : (k : ℕ) (h : Holding) (b : Bool) (o o′ : Option Status) (t : Option ℕ) → o′ ≡ orElse (Option·map (checkedBy next nonces) t) o →
-      orElse (statusHeld x (cond b (withCheck next nonces k (record { holding = h })) (record { holding = h }) .holding)) o′
-      ≡ orElse (Option·map (checkedBy next nonces) (cond (holdsHeld x h) (cond b (some k) none) t)) (orElse (statusHeld x h) o)
+module _ (x : Address) (listed : List ListedLocator) (time next : ℕ) (nonces : List ℕ) where
+  held-status : (k : ℕ) (h : Holding) (b : Bool) (o o′ : Option Status) (t : Option ℕ) → o′ ≡ orElse (Option·map (checkedBy time next nonces) t) o →
+      orElse (statusHeld x (cond b (withCheck time next nonces k (record { holding = h })) (record { holding = h }) .holding)) o′
+      ≡ orElse (Option·map (checkedBy time next nonces) (cond (holdsHeld x h) (cond b (some k) none) t)) (orElse (statusHeld x h) o)
   held-status k Empty true o o′ t q = q
   held-status k Empty false o o′ t q = q
   held-status k (Held l) true o o′ t q = go (sameAddress x (l .address))
     where
-      go : (c : Bool) → orElse (cond c (some (checkedBy next nonces k)) none) o′
-          ≡ orElse (Option·map (checkedBy next nonces) (cond c (some k) t)) (orElse (cond c (some (l .status)) none) o)
+      go : (c : Bool) → orElse (cond c (some (checkedBy time next nonces k)) none) o′
+          ≡ orElse (Option·map (checkedBy time next nonces) (cond c (some k) t)) (orElse (cond c (some (l .status)) none) o)
       go true = refl
       go false = q
   held-status k (Held l) false o o′ t q = go (sameAddress x (l .address))
     where
       go : (c : Bool) → orElse (cond c (some (l .status)) none) o′
-          ≡ orElse (Option·map (checkedBy next nonces) (cond c none t)) (orElse (cond c (some (l .status)) none) o)
+          ≡ orElse (Option·map (checkedBy time next nonces) (cond c none t)) (orElse (cond c (some (l .status)) none) o)
       go true = refl
       go false = q
 
   pub checked-status : (k : ℕ) (ss : List Slot) →
-      statusIn x (checked listed next nonces k ss) ≡ orElse (Option·map (checkedBy next nonces) (checkFor x listed k ss)) (statusIn x ss)
+      statusIn x (checked listed time next nonces k ss) ≡ orElse (Option·map (checkedBy time next nonces) (checkFor x listed k ss)) (statusIn x ss)
   unfolding checked statusIn checkFor
   checked-status k [] = refl
   checked-status k (s ∷ ss) = go (awaits listed s) (checked-status k ss) (checked-status (k + 1) ss)
     where
-      go : (b : Bool) → statusIn x (checked listed next nonces k ss) ≡ orElse (Option·map (checkedBy next nonces) (checkFor x listed k ss)) (statusIn x ss) →
-          statusIn x (checked listed next nonces (k + 1) ss) ≡ orElse (Option·map (checkedBy next nonces) (checkFor x listed (k + 1) ss)) (statusIn x ss) →
-          statusIn x (cond b (withCheck next nonces k s ∷ checked listed next nonces (k + 1) ss) (s ∷ checked listed next nonces k ss))
-          ≡ orElse (Option·map (checkedBy next nonces) (cond (holds x s) (cond b (some k) none) (checkFor x listed (cond b (k + 1) k) ss)))
+      go : (b : Bool) → statusIn x (checked listed time next nonces k ss) ≡ orElse (Option·map (checkedBy time next nonces) (checkFor x listed k ss)) (statusIn x ss) →
+          statusIn x (checked listed time next nonces (k + 1) ss) ≡ orElse (Option·map (checkedBy time next nonces) (checkFor x listed (k + 1) ss)) (statusIn x ss) →
+          statusIn x (cond b (withCheck time next nonces k s ∷ checked listed time next nonces (k + 1) ss) (s ∷ checked listed time next nonces k ss))
+          ≡ orElse (Option·map (checkedBy time next nonces) (cond (holds x s) (cond b (some k) none) (checkFor x listed (cond b (k + 1) k) ss)))
           (orElse (statusHeld x (s .holding)) (statusIn x ss))
-      go true same more = held-status k (s .holding) true (statusIn x ss) (statusIn x (checked listed next nonces (k + 1) ss)) (checkFor x listed (k + 1) ss) more
-      go false same more = held-status k (s .holding) false (statusIn x ss) (statusIn x (checked listed next nonces k ss)) (checkFor x listed k ss) same
+      go true same more = held-status k (s .holding) true (statusIn x ss) (statusIn x (checked listed time next nonces (k + 1) ss)) (checkFor x listed (k + 1) ss) more
+      go false same more = held-status k (s .holding) false (statusIn x ss) (statusIn x (checked listed time next nonces k ss)) (checkFor x listed k ss) same
 
 module _ (x : Address) (listed : List ListedLocator) where
   -- the first slot that holds an address decides its status and whether it gets a check
@@ -131,14 +131,14 @@ module _ (x : Address) (listed : List ListedLocator) where
       go (first m i e u q) = rw u (status (m .status) (rw (← e, l) at (not-given (awaitsHeld listed (Held m)) i (sym q ∙ p))))
 
 -- ---- how many
-module _ (listed : List ListedLocator) (next : ℕ) (nonces : List ℕ) where
-  pub checked-length : (k : ℕ) (ss : List Slot) → length (checked listed next nonces k ss) ≡ length ss
+module _ (listed : List ListedLocator) (time next : ℕ) (nonces : List ℕ) where
+  pub checked-length : (k : ℕ) (ss : List Slot) → length (checked listed time next nonces k ss) ≡ length ss
   unfolding checked
   checked-length k [] = refl
   checked-length k (s ∷ ss) = go (awaits listed s) (checked-length k ss) (checked-length (k + 1) ss)
     where
-      go : (b : Bool) → length (checked listed next nonces k ss) ≡ length ss → length (checked listed next nonces (k + 1) ss) ≡ length ss →
-          length (cond b (withCheck next nonces k s ∷ checked listed next nonces (k + 1) ss) (s ∷ checked listed next nonces k ss)) ≡ suc (length ss)
+      go : (b : Bool) → length (checked listed time next nonces k ss) ≡ length ss → length (checked listed time next nonces (k + 1) ss) ≡ length ss →
+          length (cond b (withCheck time next nonces k s ∷ checked listed time next nonces (k + 1) ss) (s ∷ checked listed time next nonces k ss)) ≡ suc (length ss)
       go true p q = rw q
       go false p q = rw p
 
@@ -184,52 +184,52 @@ offered nonces ss p = record {
 }
 
 -- ---- slots with new checks do not clash
-module _ (next : ℕ) (nonces : List ℕ) where
-  nonce-clear : (s : Status) (k : ℕ) → isNonce (getD nonces k 0) s ≡ false → sameNonce (checkedBy next nonces k) s ≡ false
+module _ (time next : ℕ) (nonces : List ℕ) where
+  nonce-clear : (s : Status) (k : ℕ) → isNonce (getD nonces k 0) s ≡ false → sameNonce (checkedBy time next nonces k) s ≡ false
   nonce-clear (Unverified c) k p = p
   nonce-clear Active k p = refl
   nonce-clear Deprecated k p = refl
 
   -- a slot with a check does not clash with one that has not its nonce
-  check-clear : (h s : Slot) (k : ℕ) → Clear s h → Lacks (getD nonces k 0) h → Clear (withCheck next nonces k s) h
+  check-clear : (h s : Slot) (k : ℕ) → Clear s h → Lacks (getD nonces k 0) h → Clear (withCheck time next nonces k s) h
   unfolding clash
   check-clear h s k p q = go (h .holding) (s .holding) p q
     where
       go : (h s : Holding) → clashHeld s h ≡ false → foundAs (isNonce (getD nonces k 0)) (statusOf h) ≡ false →
-          clashHeld (withCheck next nonces k (record { holding = s }) .holding) h ≡ false
+          clashHeld (withCheck time next nonces k (record { holding = s }) .holding) h ≡ false
       go h Empty p q = refl
       go Empty (Held m) p q = refl
       go (Held l) (Held m) p q =
           rw (or-false-left (sameAddress (m .address) (l .address)) (sameNonce (m .status) (l .status)) p, nonce-clear (l .status) k q)
 
   -- a slot with check k has no other check's nonce
-  other-nonce : (s : Slot) (k j : ℕ) → eqb (getD nonces j 0) (getD nonces k 0) ≡ false → Lacks (getD nonces j 0) (withCheck next nonces k s)
+  other-nonce : (s : Slot) (k j : ℕ) → eqb (getD nonces j 0) (getD nonces k 0) ≡ false → Lacks (getD nonces j 0) (withCheck time next nonces k s)
   other-nonce s k j p = go (s .holding)
     where
-      go : (h : Holding) → Lacks (getD nonces j 0) (withCheck next nonces k (record { holding = h }))
+      go : (h : Holding) → Lacks (getD nonces j 0) (withCheck time next nonces k (record { holding = h }))
       go Empty = refl
       go (Held l) = p
 
   module _ (listed : List ListedLocator) where
     -- a slot stays apart from those that get checks, whose nonces it has not
     rest-clear : (h : Slot) (k : ℕ) (ss : List Slot) → All (Clear h) ss → ((j : ℕ) → k ≤ j → j < k + checkCount listed ss → Lacks (getD nonces j 0) h) →
-        All (Clear h) (checked listed next nonces k ss)
+        All (Clear h) (checked listed time next nonces k ss)
     unfolding checked checkCount All
     rest-clear h k [] p q = tt
     rest-clear h k (s ∷ ss) p q = go (awaits listed s) refl (λ r. rest-clear h k ss (p .1) r) (λ r. rest-clear h (k + 1) ss (p .1) r)
       where
         go : (b : Bool) → awaits listed s ≡ b →
-            (((j : ℕ) → k ≤ j → j < k + checkCount listed ss → Lacks (getD nonces j 0) h) → All (Clear h) (checked listed next nonces k ss)) →
-            (((j : ℕ) → k + 1 ≤ j → j < k + 1 + checkCount listed ss → Lacks (getD nonces j 0) h) → All (Clear h) (checked listed next nonces (k + 1) ss)) →
-            All (Clear h) (cond b (withCheck next nonces k s ∷ checked listed next nonces (k + 1) ss) (s ∷ checked listed next nonces k ss))
+            (((j : ℕ) → k ≤ j → j < k + checkCount listed ss → Lacks (getD nonces j 0) h) → All (Clear h) (checked listed time next nonces k ss)) →
+            (((j : ℕ) → k + 1 ≤ j → j < k + 1 + checkCount listed ss → Lacks (getD nonces j 0) h) → All (Clear h) (checked listed time next nonces (k + 1) ss)) →
+            All (Clear h) (cond b (withCheck time next nonces k s ∷ checked listed time next nonces (k + 1) ss) (s ∷ checked listed time next nonces k ss))
         go true e same more =
             let counted : checkCount listed (s ∷ ss) ≡ 1 + checkCount listed ss = rw e in
-            (clear-turned (withCheck next nonces k s) h (check-clear h s k (clear-turned h s (p .0)) (q k (omega arith) (omega arith))), more (λ j l m. q j (omega arith) (omega arith)))
+            (clear-turned (withCheck time next nonces k s) h (check-clear h s k (clear-turned h s (p .0)) (q k (omega arith) (omega arith))), more (λ j l m. q j (omega arith) (omega arith)))
         go false e same more =
             let counted : checkCount listed (s ∷ ss) ≡ checkCount listed ss = rw e in (p .0, same (λ j l m. q j l (omega arith)))
 
     pub checked-apart : (k : ℕ) (ss : List Slot) → Pairs Clear ss → Offered nonces ss → k + checkCount listed ss ≤ length nonces →
-        Pairs Clear (checked listed next nonces k ss)
+        Pairs Clear (checked listed time next nonces k ss)
     unfolding checked checkCount All Pairs
     checked-apart k [] p o h = tt
     checked-apart k (s ∷ ss) p o h =
@@ -238,13 +238,13 @@ module _ (next : ℕ) (nonces : List ℕ) where
         tail : Offered nonces ss
         tail = record { apart = o .apart; fresh = λ j l. (o .fresh j l) .1 }
 
-        go : (b : Bool) → awaits listed s ≡ b → (k + checkCount listed ss ≤ length nonces → Pairs Clear (checked listed next nonces k ss)) →
-            (k + 1 + checkCount listed ss ≤ length nonces → Pairs Clear (checked listed next nonces (k + 1) ss)) →
-            Pairs Clear (cond b (withCheck next nonces k s ∷ checked listed next nonces (k + 1) ss) (s ∷ checked listed next nonces k ss))
+        go : (b : Bool) → awaits listed s ≡ b → (k + checkCount listed ss ≤ length nonces → Pairs Clear (checked listed time next nonces k ss)) →
+            (k + 1 + checkCount listed ss ≤ length nonces → Pairs Clear (checked listed time next nonces (k + 1) ss)) →
+            Pairs Clear (cond b (withCheck time next nonces k s ∷ checked listed time next nonces (k + 1) ss) (s ∷ checked listed time next nonces k ss))
         go true e same more =
             let counted : checkCount listed (s ∷ ss) ≡ 1 + checkCount listed ss = rw e in (
-              rest-clear (withCheck next nonces k s) (k + 1) ss
-                  (all-both (Clear s) (Lacks (getD nonces k 0)) (Clear (withCheck next nonces k s)) (λ t u v. check-clear t s k u v) ss (p .0)
+              rest-clear (withCheck time next nonces k s) (k + 1) ss
+                  (all-both (Clear s) (Lacks (getD nonces k 0)) (Clear (withCheck time next nonces k s)) (λ t u v. check-clear t s k u v) ss (p .0)
                   (tail .fresh k (omega arith)))
                   (λ j l m. other-nonce s k j (eqb-turned (getD nonces k 0) (getD nonces j 0) (o .apart k j (omega arith) (omega arith)))),
               more (omega arith),

@@ -7,3 +7,4 @@ pub mod Checked
 pub mod Room
 pub mod Turned
 pub mod Moved
+pub mod Carried

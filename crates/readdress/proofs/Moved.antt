@@ -79,17 +79,17 @@ module _ (time : ℕ) (differs : Bool) (e : EchoResponse) (listed : List ListedL
           within n (omega arith)
 
   module _ (next : ℕ) (nonces : List ℕ) where
-    pub moved-length : length (newSlots listed next nonces (placed time differs e listed p ss)) ≡ slotCount
-    moved-length = checked-length listed next nonces 0 (placed time differs e listed p ss .slots) ∙ placement-length
+    pub moved-length : length (newSlots listed time next nonces (placed time differs e listed p ss)) ≡ slotCount
+    moved-length = checked-length listed time next nonces 0 (placed time differs e listed p ss .slots) ∙ placement-length
 
     -- no address is held twice, and no two outstanding nonces are equal
     pub moved-apart : length nonces ≡ nonceCount → refusal10 nonces ss ≡ false → Pairs Clear ss →
-        Pairs Clear (newSlots listed next nonces (placed time differs e listed p ss))
+        Pairs Clear (newSlots listed time next nonces (placed time differs e listed p ss))
     unfolding placed
     moved-apart eight q apart =
         let o = offered nonces ss q in
         let most = checks-most in
-        checked-apart next nonces listed 0 (placeAll time listed listed before .slots)
+        checked-apart time next nonces listed 0 (placeAll time listed listed before .slots)
         (placed-apart time listed listed before (settled-apart time differs e listed ss apart))
         (record {
           apart = o .apart;
@@ -110,10 +110,10 @@ module _ (time : ℕ) (differs : Bool) (e : EchoResponse) (listed : List ListedL
       room-found = rooms time listed listed before few (each-listed listed) ready
 
       -- every address that is listed is ACTIVE or UNVERIFIED afterwards
-      pub listed-live : (x : Address) → isListed x listed ≡ true → isDead (statusIn x (newSlots listed next nonces (placed time differs e listed p ss))) ≡ false
+      pub listed-live : (x : Address) → isListed x listed ≡ true → isDead (statusIn x (newSlots listed time next nonces (placed time differs e listed p ss))) ≡ false
       unfolding placed
       listed-live x l =
-          ap isDead (checked-status x listed next nonces 0 five)
+          ap isDead (checked-status x listed time next nonces 0 five)
           ∙ go (checkFor x listed 0 five) (check-none x listed 0 five l) (held-found x five (all-held time listed x listed before l room-found l))
         where
           five : List Slot
@@ -126,15 +126,15 @@ module _ (time : ℕ) (differs : Bool) (e : EchoResponse) (listed : List ListedL
           found (some Deprecated) q r = cc
 
           go : (c : Option ℕ) → (c ≡ none → live (statusIn x five) ≡ statusIn x five) → isFound (statusIn x five) ≡ true →
-              isDead (orElse (Option·map (checkedBy next nonces) c) (statusIn x five)) ≡ false
+              isDead (orElse (Option·map (checkedBy time next nonces) c) (statusIn x five)) ≡ false
           go none q r = found (statusIn x five) (q refl) r
           go (some j) q r = refl
 
       -- one that is neither ACTIVE nor UNVERIFIED after step 4 is UNVERIFIED: "DEPRECATED turns UNVERIFIED with a new check", and a new one "is UNVERIFIED"
       pub listed-unverified : (x : Address) → isListed x listed ≡ true → live (Option·map (settledStatus (isListed x listed) differs e) (statusIn x ss)) ≡ none →
-          foundAs isUnverified (statusIn x (newSlots listed next nonces (placed time differs e listed p ss))) ≡ true
+          foundAs isUnverified (statusIn x (newSlots listed time next nonces (placed time differs e listed p ss))) ≡ true
       listed-unverified x l q =
-          go (statusIn x (newSlots listed next nonces (placed time differs e listed p ss))) (listed-live x l)
+          go (statusIn x (newSlots listed time next nonces (placed time differs e listed p ss))) (listed-live x l)
           (move-inactive x time differs e listed p next nonces ss q)
         where
           go : (o : Option Status) → isDead o ≡ false → foundAs isActive o ≡ false → foundAs isUnverified o ≡ true

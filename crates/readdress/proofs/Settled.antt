@@ -78,7 +78,7 @@ settled-status x time differs e listed ss =
 
 -- ---- slots that do not clash
 -- each step keeps each address, and keeps its status or takes its check away
-verify-settles : (e : EchoResponse) → Settles (verifyLocator e)
+pub verify-settles : (e : EchoResponse) → Settles (verifyLocator e)
 verify-settles e = record { address = λ l. refl; status = λ l. go (l .status) (answers e (l .status)) }
   where
     go : (s : Status) (b : Bool) → (cond b Active s ≡ s) ⊎ (isUnverified (cond b Active s) ≡ false)
@@ -111,7 +111,7 @@ unfolding verifyAll
 verified-apart e ss p = pairs-map Clear Clear (onLocator (verifyLocator e)) (settled-clear (verifyLocator e) (verify-settles e)) ss p
 
 -- what each such change keeps, steps 1 to 4 keep
-steps-keep : (P : List Slot → Type 0) → ((change : Locator → Locator) → Settles change → (ss : List Slot) → P ss → P (map (onLocator change) ss)) →
+pub steps-keep : (P : List Slot → Type 0) → ((change : Locator → Locator) → Settles change → (ss : List Slot) → P ss → P (map (onLocator change) ss)) →
     (time : ℕ) (differs : Bool) (e : EchoResponse) (listed : List ListedLocator) (ss : List Slot) → P ss → P (settled time differs e listed ss)
 unfolding settled verifyAll rebind renewAll retireAll
 steps-keep P keep time differs e listed ss p =

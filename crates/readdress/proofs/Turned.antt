@@ -74,20 +74,20 @@ nonce-settled inSet differs e (some s) j p = go inSet differs (answers e s) p
     go false differs b p = cc
 
 -- a check was given to what was DEPRECATED, and makes nothing ACTIVE; the nonce is then its own
-given-active : (next : ℕ) (nonces : List ℕ) (c : Option ℕ) (o : Option Status) → ((j : ℕ) → c ≡ some j → o ≡ some Deprecated) →
-    foundAs isActive (orElse (Option·map (checkedBy next nonces) c) o) ≡ foundAs isActive o
-given-active next nonces none o h = refl
-given-active next nonces (some j) o h = rw (h j refl)
+given-active : (time next : ℕ) (nonces : List ℕ) (c : Option ℕ) (o : Option Status) → ((j : ℕ) → c ≡ some j → o ≡ some Deprecated) →
+    foundAs isActive (orElse (Option·map (checkedBy time next nonces) c) o) ≡ foundAs isActive o
+given-active time next nonces none o h = refl
+given-active time next nonces (some j) o h = rw (h j refl)
 
-given-nonce : (next : ℕ) (nonces : List ℕ) (c : Option ℕ) (o : Option Status) →
-    nonceHeld (orElse (Option·map (checkedBy next nonces) c) o) ≡ orElse (Option·map (λ (k : ℕ). getD nonces k 0) c) (nonceHeld o)
-given-nonce next nonces none o = refl
-given-nonce next nonces (some j) o = refl
+given-nonce : (time next : ℕ) (nonces : List ℕ) (c : Option ℕ) (o : Option Status) →
+    nonceHeld (orElse (Option·map (checkedBy time next nonces) c) o) ≡ orElse (Option·map (λ (k : ℕ). getD nonces k 0) c) (nonceHeld o)
+given-nonce time next nonces none o = refl
+given-nonce time next nonces (some j) o = refl
 
-given-kept : (next : ℕ) (nonces : List ℕ) (c : Option ℕ) (o : Option Status) (s : Status) → ((j : ℕ) → c ≡ some j → o ≡ some Deprecated) → live o ≡ some s →
-    orElse (Option·map (checkedBy next nonces) c) o ≡ some s
-given-kept next nonces none o s h p = live-some o s p
-given-kept next nonces (some j) o s h p = let z : none ≡ some s = rw (h j refl) at p in cc
+given-kept : (time next : ℕ) (nonces : List ℕ) (c : Option ℕ) (o : Option Status) (s : Status) → ((j : ℕ) → c ≡ some j → o ≡ some Deprecated) → live o ≡ some s →
+    orElse (Option·map (checkedBy time next nonces) c) o ≡ some s
+given-kept time next nonces none o s h p = live-some o s p
+given-kept time next nonces (some j) o s h p = let z : none ≡ some s = rw (h j refl) at p in cc
 
 module _ (x : Address) (time : ℕ) (differs : Bool) (e : EchoResponse) (listed : List ListedLocator) (p : Preference) (next : ℕ) (nonces : List ℕ) (ss : List Slot) where
   -- the slots after step 5, the check that the address gets, and its status after the Move
@@ -98,10 +98,10 @@ module _ (x : Address) (time : ℕ) (differs : Bool) (e : EchoResponse) (listed 
   check = checkFor x listed 0 five
 
   abbrev after : Option Status
-  after = statusIn x (newSlots listed next nonces (placed time differs e listed p ss))
+  after = statusIn x (newSlots listed time next nonces (placed time differs e listed p ss))
 
-  after-is : after ≡ orElse (Option·map (checkedBy next nonces) check) (statusIn x five)
-  after-is = checked-status x listed next nonces 0 five
+  after-is : after ≡ orElse (Option·map (checkedBy time next nonces) check) (statusIn x five)
+  after-is = checked-status x listed time next nonces 0 five
 
   was-deprecated : (j : ℕ) → check ≡ some j → statusIn x five ≡ some Deprecated
   was-deprecated j q = (check-awaited x listed 0 j five q) .deprecated
@@ -109,14 +109,14 @@ module _ (x : Address) (time : ℕ) (differs : Bool) (e : EchoResponse) (listed 
   active-after : foundAs isActive after ≡ foundAs isActive (Option·map (settledStatus (isListed x listed) differs e) (statusIn x ss))
   active-after =
       ap (foundAs isActive) after-is
-      ∙ given-active next nonces check (statusIn x five) was-deprecated
+      ∙ given-active time next nonces check (statusIn x five) was-deprecated
       ∙ active-live (statusIn x five)
       ∙ ap (foundAs isActive) (placed-status x time differs e listed p ss)
       ∙ sym (active-live (Option·map (settledStatus (isListed x listed) differs e) (statusIn x ss)))
 
   -- what is ACTIVE or UNVERIFIED after step 4 stays as it is: "ACTIVE stays; UNVERIFIED keeps its check"
   pub move-keeps : (s : Status) → live (Option·map (settledStatus (isListed x listed) differs e) (statusIn x ss)) ≡ some s → after ≡ some s
-  move-keeps s q = after-is ∙ given-kept next nonces check (statusIn x five) s was-deprecated (placed-status x time differs e listed p ss ∙ q)
+  move-keeps s q = after-is ∙ given-kept time next nonces check (statusIn x five) s was-deprecated (placed-status x time differs e listed p ss ∙ q)
 
   pub move-inactive : live (Option·map (settledStatus (isListed x listed) differs e) (statusIn x ss)) ≡ none → foundAs isActive after ≡ false
   move-inactive q = active-after ∙ active-live (Option·map (settledStatus (isListed x listed) differs e) (statusIn x ss)) ∙ rw q
@@ -134,7 +134,7 @@ module _ (x : Address) (time : ℕ) (differs : Bool) (e : EchoResponse) (listed 
       dead (some Deprecated) q = refl
 
       go : (c : Option ℕ) → ((j : ℕ) → c ≡ some j → isListed x listed ≡ true) → live (statusIn x five) ≡ none →
-          isDead (orElse (Option·map (checkedBy next nonces) c) (statusIn x five)) ≡ true
+          isDead (orElse (Option·map (checkedBy time next nonces) c) (statusIn x five)) ≡ true
       go none h q = dead (statusIn x five) q
       go (some j) h q = apart (sym (h j refl) ∙ l)
 
@@ -148,7 +148,7 @@ module _ (x : Address) (time : ℕ) (differs : Bool) (e : EchoResponse) (listed 
 
   -- its nonce is the one that its new check took, or else the one that it had
   pub move-nonce : nonceHeld after ≡ orElse (nonceTaken x listed nonces five) (nonceHeld (statusIn x five))
-  move-nonce = ap nonceHeld after-is ∙ given-nonce next nonces check (statusIn x five)
+  move-nonce = ap nonceHeld after-is ∙ given-nonce time next nonces check (statusIn x five)
 
   pub move-keeps-nonce : (j : ℕ) → nonceHeld (statusIn x five) ≡ some j → nonceHeld (statusIn x ss) ≡ some j
   move-keeps-nonce j q =

@@ -9,6 +9,7 @@ use lib.ListN.{getD}
 use Rattle.octets.specs.Records as records
 use Rattle.address.specs.declared.Address.{Address}
 use Rattle.locator.specs.declared.ListedLocator.{ListedLocator}
+use Rattle.slot.specs.declared.Check.{Check}
 use Rattle.slot.specs.declared.Status.{Status}
 use Rattle.slot.specs.declared.Status.the-variants.{Unverified}
 use Rattle.slot.specs.declared.Locator.{Locator}
@@ -33,19 +34,23 @@ unfoldable pub checkCount : List ListedLocator → List Slot → ℕ
 checkCount listed [] = 0
 checkCount listed (s ∷ ss) = cond (awaits listed s) (1 + checkCount listed ss) (checkCount listed ss)
 
--- UNVERIFIED, with the check that takes nonce k of those offered and own Update ID next + k
-abbrev pub checkedBy : (next : ℕ) → (nonces : List ℕ) → (k : ℕ) → Status
-checkedBy next nonces k = Unverified (record { nonce = getD nonces k 0; id = next + k })
+-- the check that takes nonce k of those offered and own Update ID next + k. Order 4: its issue time is the stored time, and it was not sent again yet
+abbrev pub newCheck : (time next : ℕ) → (nonces : List ℕ) → (k : ℕ) → Check
+newCheck time next nonces k = record { nonce = getD nonces k 0; id = next + k; issued = time; resends = 0 }
+
+-- UNVERIFIED, with that check
+abbrev pub checkedBy : (time next : ℕ) → (nonces : List ℕ) → (k : ℕ) → Status
+checkedBy time next nonces k = Unverified (newCheck time next nonces k)
 
 -- the slot with check k
-abbrev pub withCheck : (next : ℕ) → (nonces : List ℕ) → (k : ℕ) → Slot → Slot
-withCheck next nonces k s = onLocator (λ (l : Locator). withStatus l (checkedBy next nonces k)) s
+abbrev pub withCheck : (time next : ℕ) → (nonces : List ℕ) → (k : ℕ) → Slot → Slot
+withCheck time next nonces k s = onLocator (λ (l : Locator). withStatus l (checkedBy time next nonces k)) s
 
 -- from check k on: "New checks, in slot order, take them in order and own Update IDs in order."
-unfoldable pub checked : List ListedLocator → (next : ℕ) → (nonces : List ℕ) → (k : ℕ) → List Slot → List Slot
-checked listed next nonces k [] = []
-checked listed next nonces k (s ∷ ss) =
-    cond (awaits listed s) (withCheck next nonces k s ∷ checked listed next nonces (k + 1) ss) (s ∷ checked listed next nonces k ss)
+unfoldable pub checked : List ListedLocator → (time next : ℕ) → (nonces : List ℕ) → (k : ℕ) → List Slot → List Slot
+checked listed time next nonces k [] = []
+checked listed time next nonces k (s ∷ ss) =
+    cond (awaits listed s) (withCheck time next nonces k s ∷ checked listed time next nonces (k + 1) ss) (s ∷ checked listed time next nonces k ss)
 
 -- which of the new checks, from check k on, an address gets; none where it gets none
 unfoldable pub checkFor : Address → List ListedLocator → (k : ℕ) → List Slot → Option ℕ

@@ -25,9 +25,13 @@ use Rattle.readdress.specs.Moves.{settled, placed, newChecks, newSlots, 
 abbrev holding : (n traffic expiry : ℕ) → Status → Slot
 holding n traffic expiry s = slotOf (record { address = record { high = 1; low = n }; traffic = traffic; expiry = expiry; status = s })
 
--- UNVERIFIED, with this check
+-- UNVERIFIED, with a check that was issued at 90 and sent again twice
 abbrev waiting : (nonce id : ℕ) → Status
-waiting nonce id = Unverified (record { nonce = nonce; id = id })
+waiting nonce id = Unverified (record { nonce = nonce; id = id; issued = 90; resends = 2 })
+
+-- UNVERIFIED, with a new check of time 100
+abbrev issued : (nonce id : ℕ) → Status
+issued nonce id = Unverified (record { nonce = nonce; id = id; issued = 100; resends = 0 })
 
 -- slots 0 to 2 hold addresses 1 to 3 with these statuses
 abbrev three : (first second third : Status) → List Slot
@@ -118,8 +122,8 @@ step-6 = (refl, refl)
 
 -- the new checks, in slot order: addresses 5, 3 and 4
 checks : (newChecks listed (after NoPreference) ≡ 3)
-    × (newSlots listed 3 (11 ∷ 12 ∷ 13 ∷ 14 ∷ []) (after NoPreference)
-    ≡ holding 1 2 160 Active ∷ holding 5 2 160 (waiting 11 3) ∷ holding 3 2 160 (waiting 12 4) ∷ holding 4 2 160 (waiting 13 5) ∷ emptySlot ∷ [])
+    × (newSlots listed 100 3 (11 ∷ 12 ∷ 13 ∷ 14 ∷ []) (after NoPreference)
+    ≡ holding 1 2 160 Active ∷ holding 5 2 160 (issued 11 3) ∷ holding 3 2 160 (issued 12 4) ∷ holding 4 2 160 (issued 13 5) ∷ emptySlot ∷ [])
 unfolding placed settled verifyAll rebind renewAll retireAll entryFor placeAll lowest checkCount checked records.some
 checks = (refl, refl)
 
@@ -128,6 +132,6 @@ checks = (refl, refl)
 taken : (map (λ (n : ℕ). nonceTaken (record { high = 1; low = n }) listed (11 ∷ 12 ∷ 13 ∷ 14 ∷ []) (after NoPreference .slots)) (1 ∷ 5 ∷ 3 ∷ 4 ∷ 2 ∷ [])
     ≡ none ∷ some 11 ∷ some 12 ∷ some 13 ∷ none ∷ [])
     × (nonceTaken (record { high = 1; low = 5 }) listed [] (after NoPreference .slots) ≡ some 0)
-    × (checked (entry 3 false ∷ []) 7 [] 0 (holding 3 0 130 Deprecated ∷ []) ≡ holding 3 0 130 (waiting 0 7) ∷ [])
+    × (checked (entry 3 false ∷ []) 100 7 [] 0 (holding 3 0 130 Deprecated ∷ []) ≡ holding 3 0 130 (issued 0 7) ∷ [])
 unfolding placed settled verifyAll rebind renewAll retireAll entryFor placeAll lowest checkFor checked records.some
 taken = (refl, refl, refl)

@@ -23,9 +23,9 @@ placed time differs e listed p ss = placeAll time listed listed (record { slots 
 abbrev pub newChecks : List ListedLocator → Placement → ℕ
 newChecks listed p = checkCount listed (p .slots)
 
--- the slots with them: the first takes the first nonce and the next own Update ID
-abbrev pub newSlots : List ListedLocator → (next : ℕ) → (nonces : List ℕ) → Placement → List Slot
-newSlots listed next nonces p = checked listed next nonces 0 (p .slots)
+-- the slots with them, issued at the time: the first takes the first nonce and the next own Update ID
+abbrev pub newSlots : List ListedLocator → (time next : ℕ) → (nonces : List ℕ) → Placement → List Slot
+newSlots listed time next nonces p = checked listed time next nonces 0 (p .slots)
 
 -- the preference after step 6
 abbrev pub newPreference : List ListedLocator → Placement → Preference

@@ -1,7 +1,7 @@
 -- The table lists each refusal at its number. Assumes nothing.
 use mathlib.Core.Path.{_≡_, refl}
 use Rattle.refusal.specs.declared.Refusal.{Refusal}
-use Rattle.refusal.specs.declared.Refusal.the-variants.{BadAssociation, ShortReplyBuffer, NotAuthentic, Malformed, UnknownParameter, UnknownMessage, BadLocatorSet, StaleUpdateId, UnmatchedEcho, WrongSpi, RepeatedNonce, UpdateIdsUsedUp, BadTime, BadSize, NoPath, NoCredit, BadStart, BadListSize, BadList, BadInboundSpi, NoUpdateIdLeft, ShortBuffer, LongOpaque}
+use Rattle.refusal.specs.declared.Refusal.the-variants.{BadAssociation, ShortReplyBuffer, NotAuthentic, Malformed, UnknownParameter, UnknownMessage, BadLocatorSet, StaleUpdateId, UnmatchedEcho, WrongSpi, RepeatedNonce, UpdateIdsUsedUp, BadTime, BadSize, NoPath, NoCredit, BadStart, BadListSize, BadList, BadInboundSpi, NoUpdateIdLeft, ShortBuffer, LongOpaque, ShortTickBuffer}
 use Rattle.refusal.specs.Table.{numberOf, refusal}
 
 -- each case is the refusal of its number
@@ -29,3 +29,4 @@ refusal-number BadInboundSpi = refl
 refusal-number NoUpdateIdLeft = refl
 refusal-number ShortBuffer = refl
 refusal-number LongOpaque = refl
+refusal-number ShortTickBuffer = refl

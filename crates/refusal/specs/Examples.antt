@@ -1,9 +1,9 @@
--- Document 01's table, and the refusals of order 1, written out.
+-- Document 01's table, and the refusals of orders 1 and 4, written out.
 use Prim.Native.Nat.{ℕ}
 use mathlib.Core.Path.{_≡_, refl}
 use mathlib.Core.List.{List, [], _∷_, map}
 use Rattle.refusal.specs.declared.Refusal.{Refusal}
-use Rattle.refusal.specs.declared.Refusal.the-variants.{BadAssociation, ShortReplyBuffer, NotAuthentic, Malformed, UnknownParameter, UnknownMessage, BadLocatorSet, StaleUpdateId, UnmatchedEcho, WrongSpi, RepeatedNonce, UpdateIdsUsedUp, BadTime, BadSize, NoPath, NoCredit, BadStart, BadListSize, BadList, BadInboundSpi, NoUpdateIdLeft, ShortBuffer, LongOpaque}
+use Rattle.refusal.specs.declared.Refusal.the-variants.{BadAssociation, ShortReplyBuffer, NotAuthentic, Malformed, UnknownParameter, UnknownMessage, BadLocatorSet, StaleUpdateId, UnmatchedEcho, WrongSpi, RepeatedNonce, UpdateIdsUsedUp, BadTime, BadSize, NoPath, NoCredit, BadStart, BadListSize, BadList, BadInboundSpi, NoUpdateIdLeft, ShortBuffer, LongOpaque, ShortTickBuffer}
 use Rattle.refusal.specs.Table.{numberOf, refusal}
 
 -- a number of the table, and the refusal that it is
@@ -63,6 +63,8 @@ table =
     ∷ (21 is ShortBuffer)
     -- "Opaque over 64"
     ∷ (22 is LongOpaque)
+    -- order 4: "Tick now needs a 320-byte buffer"
+    ∷ (23 is ShortTickBuffer)
     ∷ []
 
 -- each refusal has its number, and each number its refusal

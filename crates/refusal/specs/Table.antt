@@ -3,7 +3,7 @@ use Prim.Native.Nat.{ℕ}
 use mathlib.Core.List.{List, [], _∷_}
 use lib.ListN.{getD}
 use Rattle.refusal.specs.declared.Refusal.{Refusal}
-use Rattle.refusal.specs.declared.Refusal.the-variants.{BadAssociation, ShortReplyBuffer, NotAuthentic, Malformed, UnknownParameter, UnknownMessage, BadLocatorSet, StaleUpdateId, UnmatchedEcho, WrongSpi, RepeatedNonce, UpdateIdsUsedUp, BadTime, BadSize, NoPath, NoCredit, BadStart, BadListSize, BadList, BadInboundSpi, NoUpdateIdLeft, ShortBuffer, LongOpaque}
+use Rattle.refusal.specs.declared.Refusal.the-variants.{BadAssociation, ShortReplyBuffer, NotAuthentic, Malformed, UnknownParameter, UnknownMessage, BadLocatorSet, StaleUpdateId, UnmatchedEcho, WrongSpi, RepeatedNonce, UpdateIdsUsedUp, BadTime, BadSize, NoPath, NoCredit, BadStart, BadListSize, BadList, BadInboundSpi, NoUpdateIdLeft, ShortBuffer, LongOpaque, ShortTickBuffer}
 
 -- "A refusal returns its number": the number of each case
 abbrev pub numberOf : Refusal → ℕ
@@ -30,6 +30,7 @@ numberOf BadInboundSpi = 19
 numberOf NoUpdateIdLeft = 20
 numberOf ShortBuffer = 21
 numberOf LongOpaque = 22
+numberOf ShortTickBuffer = 23
 
 -- the refusals in the order of their numbers, from 0
 abbrev pub refusals : List Refusal
@@ -57,6 +58,7 @@ refusals =
     ∷ NoUpdateIdLeft
     ∷ ShortBuffer
     ∷ LongOpaque
+    ∷ ShortTickBuffer
     ∷ []
 
 -- the refusal of a number: definitions of other crates name a refusal by the table's number, as `refusal 3`

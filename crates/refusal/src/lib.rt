@@ -27,6 +27,7 @@ pub enum Refusal {
     NoUpdateIdLeft,
     ShortBuffer,
     LongOpaque,
+    ShortTickBuffer,
 }
 
 // The number that the papers give the refusal.
@@ -57,5 +58,6 @@ pub fn number(refusal: Refusal) -> u8
         Refusal::NoUpdateIdLeft => 20,
         Refusal::ShortBuffer => 21,
         Refusal::LongOpaque => 22,
+        Refusal::ShortTickBuffer => 23,
     }
 }

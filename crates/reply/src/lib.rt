@@ -1,4 +1,4 @@
-// The parameters of a reply and of an announcement, and a reply as a whole, written into the buffer that the caller lends. Depends on reply_form, writer and parameter.
+// The parameters of a reply, of a check that is sent again and of an announcement, and a reply as a whole, written into the buffer that the caller lends. Depends on reply_form, writer and parameter.
 use parameter::ACK;
 use parameter::ECHO_REQUEST_SIGNED;
 use parameter::ESP_INFO;
@@ -27,7 +27,7 @@ pub const ESP_INFO_SIZE: usize = 16;
 
 pub const ACK_SIZE: usize = 8;
 
-const ECHO_REQUEST_SIZE: usize = 16;
+pub const ECHO_REQUEST_SIZE: usize = 16;
 
 // The bytes of a check, and where its parameters after ESP_INFO stand in it.
 const CHECK_SIZE: usize = 48;
@@ -87,7 +87,7 @@ pub fn put_esp_info(buffer: &mut [u8], at: usize, keymat: u16, old: u32, new: u3
 }
 
 // Writes ECHO_REQUEST_SIGNED with its nonce, and its padding.
-fn put_echo_request(buffer: &mut [u8], at: usize, nonce: u64)
+pub fn put_echo_request(buffer: &mut [u8], at: usize, nonce: u64)
     ensures { λ _. ⌜ now (buffer .exit) ≡ writtenAt at (echoRequestBytes nonce) (now (buffer .entry)) ⌝ }
 {
     if buffer.len() < ECHO_REQUEST_SIZE {

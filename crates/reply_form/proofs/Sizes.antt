@@ -1,6 +1,6 @@
 -- How many bytes a reply has. Assumes nothing.
 use mathlib.Core.Path.{_≡_, refl, _∙_}
-use mathlib.Core.List.{List}
+use mathlib.Core.List.{List, []}
 use Prim.Native.Nat.{ℕ, zero, suc, _+_, _*_, _≤_}
 use lib.ListN.{length, getD, length-append, length-drop}
 use native.Mathlib.Omega.{arith}
@@ -10,7 +10,7 @@ use Rattle.parameter.specs.Types.{ack, echoResponseSigned}
 use Rattle.parameter.specs.Parameters.{takes}
 use Rattle.parameter.specs.Written.{parameterBytes}
 use Rattle.parameter.proofs.Sizes.{parameter-length}
-use Rattle.reply_form.specs.Replies.{checkSize, ackSize, espInfoWith, ackBytes, echoRequestBytes, echoResponseBytes, checkBytes, checksBytes, moveBytes, moveSize, responseBytes, overwritten}
+use Rattle.reply_form.specs.Replies.{checkSize, ackSize, resendSize, espInfoWith, ackBytes, echoRequestBytes, echoResponseBytes, checkWith, checkBytes, resendBytes, checksBytes, moveBytes, moveSize, responseBytes, overwritten}
 
 -- SEQ or ACK
 pub number-length : (kind value : ℕ) → length (parameterBytes kind (bytesOf 4 value)) ≡ ackSize
@@ -25,8 +25,15 @@ echo-request-length nonce = simp (parameter-length, bytes-length)
 pub ack-length : (peer : ℕ) → length (ackBytes peer) ≡ ackSize
 ack-length peer = number-length ack peer
 
+-- a check has what its resend has, and what stands between: so 48 bytes are 40 and the ACK's 8
+with-length : (inbound id nonce : ℕ) (between : List ℕ) → length (checkWith inbound id nonce between) ≡ resendSize + length between
+with-length inbound id nonce between = simp (length-append, parameter-length, bytes-length) (omega arith)
+
+pub resend-length : (inbound id nonce : ℕ) → length (resendBytes inbound id nonce) ≡ resendSize
+resend-length inbound id nonce = with-length inbound id nonce [] ∙ omega arith
+
 pub check-length : (inbound peer id nonce : ℕ) → length (checkBytes inbound peer id nonce) ≡ checkSize
-check-length inbound peer id nonce = simp (length-append, parameter-length, bytes-length)
+check-length inbound peer id nonce = omega (arith, with-length inbound id nonce (ackBytes peer), ack-length peer)
 
 pub checks-length : (inbound peer next : ℕ) (nonces : List ℕ) (k count : ℕ) → length (checksBytes inbound peer next nonces k count) ≡ checkSize * count
 unfolding checksBytes

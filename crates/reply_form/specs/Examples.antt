@@ -1,4 +1,4 @@
--- Worked examples, computed from the definitions: the whole reply with one check, the order of two checks, a reply without checks, and answers to Checks.
+-- Worked examples, computed from the definitions: the whole reply with one check, a check that is sent again, the order of two checks, a reply without checks, and answers to Checks.
 use Prim.Native.Nat.{ℕ}
 use mathlib.Core.Path.{_≡_, refl}
 use mathlib.Core.List.{[], _∷_, _++_, map}
@@ -6,13 +6,20 @@ use lib.ListN.{length, replicate}
 use Rattle.octets.specs.ExamplesHex.{hex}
 use Rattle.octets.specs.Written.{bytesOf}
 use Rattle.parameter.specs.Written.{parameterBytes}
-use Rattle.reply_form.specs.Replies.{nonceCount, checkSize, ackSize, espInfoWith, ackBytes, checksBytes, moveBytes, moveSize, responseBytes, fitted, overwritten}
+use Rattle.reply_form.specs.Replies.{nonceCount, checkSize, ackSize, resendSize, espInfoWith, ackBytes, resendBytes, checksBytes, moveBytes, moveSize, responseBytes, fitted, overwritten}
 
 -- "Peer ID 7, own ID 3, inbound SPI 0x1001, nonce 0102030405060708, one check, whole reply in hex"
 one-check : moveBytes 0x1001 7 3 (0x0102030405060708 ∷ []) 1
     ≡ hex "0041000c 00000000 00001001 00001001 01810004 00000003 01c10004 00000007 03810008 01020304 05060708 00000000"
 unfolding moveBytes checksBytes parameterBytes bytesOf
 one-check = refl
+
+-- order 4: that check sent again, after an announcement of the inbound SPI 0x1002: "the 48-byte form without its ACK", 40 bytes
+resend : (resendBytes 0x1002 3 0x0102030405060708 ≡ hex "0041000c 00000000 00001002 00001002 01810004 00000003 03810008 01020304 05060708 00000000")
+    × (length (resendBytes 0x1002 3 0x0102030405060708) ≡ 40)
+    × (resendSize ≡ 40)
+unfolding parameterBytes bytesOf
+resend = (refl, refl, refl)
 
 -- two checks: the second has the next nonce and the next own ID. A nonce that is not offered counts 0
 two-checks : (moveBytes 0x1001 7 3 (5 ∷ 6 ∷ []) 2

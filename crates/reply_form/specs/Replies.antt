@@ -1,5 +1,5 @@
 -- The bytes of a reply, and what the lent buffer holds after it.
-use Prim.Native.Nat.{ℕ, zero, suc, _+_, _*_}
+use Prim.Native.Nat.{ℕ, zero, suc, _+_, _-_, _*_}
 use mathlib.Core.Bool.{cond}
 use mathlib.Core.List.{List, [], _++_}
 use lib.Dec.{ltb}
@@ -19,6 +19,10 @@ checkSize = 48
 -- "an 8-byte ACK"
 abbrev pub ackSize : ℕ
 ackSize = 8
+
+-- order 4: "40 bytes each: the 48-byte form without its ACK"
+abbrev pub resendSize : ℕ
+resendSize = checkSize - ackSize
 
 -- ESP_INFO: "reserved 16 bits, KEYMAT Index 16, OLD SPI 32, NEW SPI 32", its reserved bits zero
 abbrev pub espInfoWith : (keymat old new : ℕ) → List ℕ
@@ -40,9 +44,17 @@ ackBytes peer = parameterBytes ack (bytesOf 4 peer)
 abbrev pub echoRequestBytes : (nonce : ℕ) → List ℕ
 echoRequestBytes nonce = parameterBytes echoRequestSigned (bytesOf nonceSize nonce)
 
+-- what a check and its resend share: "ESP_INFO .., SEQ, .., ECHO_REQUEST_SIGNED", with what stands between
+abbrev pub checkWith : (inbound id nonce : ℕ) → (between : List ℕ) → List ℕ
+checkWith inbound id nonce between = espInfoBytes inbound ++ (seqBytes id ++ (between ++ echoRequestBytes nonce))
+
 -- "Each writes 48 bytes: ESP_INFO .., SEQ, ACK of the peer's ID, ECHO_REQUEST_SIGNED"
 abbrev pub checkBytes : (inbound peer id nonce : ℕ) → List ℕ
-checkBytes inbound peer id nonce = espInfoBytes inbound ++ (seqBytes id ++ (ackBytes peer ++ echoRequestBytes nonce))
+checkBytes inbound peer id nonce = checkWith inbound id nonce (ackBytes peer)
+
+-- order 4: a check that is sent again, "the 48-byte form without its ACK, with the inbound SPI now held and its first Update ID and nonce"
+abbrev pub resendBytes : (inbound id nonce : ℕ) → List ℕ
+resendBytes inbound id nonce = checkWith inbound id nonce []
 
 -- so many checks from check k on: they "take them in order and own Update IDs in order"
 unfoldable pub checksBytes : (inbound peer next : ℕ) → (nonces : List ℕ) → (k count : ℕ) → List ℕ

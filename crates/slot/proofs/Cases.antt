@@ -4,6 +4,7 @@ use mathlib.Core.Bool.{Bool, true, false}
 use Prim.Native.Nat.{ℕ}
 use lib.Dec.{eqb}
 use Rattle.address.specs.Rules.{sameAddress}
+use Rattle.check_times.specs.Times.{isGivenUp, isBadCheck}
 use Rattle.slot.specs.declared.Check.{Check}
 use Rattle.slot.specs.declared.Status.{Status}
 use Rattle.slot.specs.declared.Status.the-variants.{Unverified, Deprecated}
@@ -13,6 +14,7 @@ use Rattle.slot.specs.declared.Holding.the-variants.{Empty, Held}
 use Rattle.slot.specs.declared.Slot.{Slot}
 use Rattle.slot.specs.Found.{slotOf, withStatus, onHeld, onLocator, isNonce, heldAs}
 use Rattle.slot.specs.Clashes.{sameNonce, clash}
+use Rattle.slot.specs.Checks.{givenUp, badCheck}
 use Rattle.slot.specs.Expiry.{isOver, expireLocator, expireSlot}
 
 pub nonces : (x y : Status) (k l : Check) → x ≡ Unverified k → y ≡ Unverified l → eqb (k .nonce) (l .nonce) ≡ sameNonce x y
@@ -39,6 +41,13 @@ clash-nonce x y l m a b p q u f v = rw (p, q, ← u, f, ← v)
 pub nonce-held : (nonce : ℕ) (s : Slot) (l : Locator) (k : Check) → s .holding ≡ Held l → l .status ≡ Unverified k →
     eqb nonce (k .nonce) ≡ heldAs (isNonce nonce) s
 nonce-held nonce s l k p q = simp (p, q)
+
+pub bad-held : (t : ℕ) (s : Slot) (l : Locator) (k : Check) (b : Bool) → s .holding ≡ Held l → l .status ≡ Unverified k →
+    b ≡ isBadCheck (k .issued) (k .resends) t → b ≡ heldAs (badCheck t) s
+bad-held t s l k b p q r = r ∙ simp (p, q)
+
+pub given-up-held : (t : ℕ) (s : Status) (k : Check) (b : Bool) → s ≡ Unverified k → b ≡ isGivenUp (k .issued) t → b ≡ givenUp t s
+given-up-held t s k b p q = q ∙ simp p
 
 -- a slot is its holding
 abbrev slotWith : Holding → Slot

@@ -13,6 +13,7 @@ use Rattle.slot.specs.declared.Holding.the-variants.{Empty, Held}
 use Rattle.slot.specs.declared.Slot.{Slot}
 use Rattle.slot.specs.Found.{slotCount, emptySlot, slotOf, withStatus, onLocator, holds, orElse, statusIn, slotAt, statusAt, isActive, isUnverified, isDeprecated, isNonce, foundAs, heldAs}
 use Rattle.slot.specs.Clashes.{clash}
+use Rattle.slot.specs.Checks.{givenUp, badCheck, due, resendStatus, resendSlot}
 use Rattle.slot.specs.Expiry.{expiryAt, expireSlot}
 
 -- the address 2001:db8::n
@@ -30,9 +31,13 @@ held n s = record { holding = Held (locator n s) }
 abbrev empty : Slot
 empty = record { holding = Empty }
 
--- UNVERIFIED, with this check
+-- UNVERIFIED, with a check of these numbers
+abbrev checked : (nonce id issued resends : ℕ) → Status
+checked nonce id issued resends = Unverified (record { nonce = nonce; id = id; issued = issued; resends = resends })
+
+-- the same, issued at 150 and sent again three times
 abbrev waiting : (nonce id : ℕ) → Status
-waiting nonce id = Unverified (record { nonce = nonce; id = id })
+waiting nonce id = checked nonce id 150 3
 
 -- "and 8 slots": a slot is empty or holds a locator, and another status changes nothing else
 forms : (slotCount ≡ 8)
@@ -99,3 +104,26 @@ expiry : (expiryAt 100 60 ≡ 160)
     × (map (expireSlot 160) (held 1 (waiting 9 2) ∷ held 1 Deprecated ∷ empty ∷ []) ≡ held 1 Deprecated ∷ held 1 Deprecated ∷ empty ∷ [])
     × (map (expireSlot 159) (held 1 (waiting 9 2) ∷ held 1 Deprecated ∷ empty ∷ []) ≡ held 1 (waiting 9 2) ∷ held 1 Deprecated ∷ empty ∷ [])
 expiry = (refl, refl, refl, refl)
+
+-- "At the first accepted tick 16 or more seconds after issue the locator turns DEPRECATED": issued at 140, with expiry 160; ACTIVE has no check, and expires
+-- alone
+ended : (map (λ (time : ℕ). expireSlot time (held 1 (checked 9 2 140 4))) (139 ∷ 140 ∷ 155 ∷ 156 ∷ 157 ∷ 160 ∷ [])
+    ≡ held 1 (checked 9 2 140 4) ∷ held 1 (checked 9 2 140 4) ∷ held 1 (checked 9 2 140 4) ∷ replicate 3 (held 1 Deprecated))
+    × (map (expireSlot 157) (held 1 Active ∷ held 1 Deprecated ∷ []) ≡ held 1 Active ∷ held 1 Deprecated ∷ [])
+    × (map (givenUp 157) (checked 9 2 140 4 ∷ checked 9 2 150 3 ∷ Active ∷ Deprecated ∷ []) ≡ true ∷ false ∷ false ∷ false ∷ [])
+ended = (refl, refl, refl)
+
+-- "an issue time after the stored time or a count over 4": of UNVERIFIED alone
+bad : (map (badCheck 150) (checked 9 2 150 4 ∷ checked 9 2 151 0 ∷ checked 9 2 150 5 ∷ checked 151 151 0 0 ∷ Active ∷ Deprecated ∷ [])
+    ≡ false ∷ true ∷ true ∷ false ∷ false ∷ false ∷ [])
+    × (map (heldAs (badCheck 150)) (held 1 (checked 9 2 151 0) ∷ held 1 Active ∷ empty ∷ []) ≡ true ∷ false ∷ false ∷ [])
+bad = (refl, refl)
+
+-- "each check whose count is below the number of moments reached": issued at 150, two moments are reached at 153; "the count becomes that number", and nothing
+-- else changes
+resends : (map (due 153) (checked 9 2 150 0 ∷ checked 9 2 150 1 ∷ checked 9 2 150 2 ∷ checked 0 0 152 0 ∷ Active ∷ Deprecated ∷ [])
+    ≡ true ∷ true ∷ false ∷ true ∷ false ∷ false ∷ [])
+    × (map (resendStatus 153) (checked 9 2 150 0 ∷ checked 9 2 150 1 ∷ checked 9 2 150 2 ∷ checked 9 2 150 4 ∷ Active ∷ Deprecated ∷ [])
+    ≡ checked 9 2 150 2 ∷ checked 9 2 150 2 ∷ checked 9 2 150 2 ∷ checked 9 2 150 4 ∷ Active ∷ Deprecated ∷ [])
+    × (map (resendSlot 153) (held 1 (checked 9 2 150 0) ∷ held 2 Active ∷ empty ∷ []) ≡ held 1 (checked 9 2 150 2) ∷ held 2 Active ∷ empty ∷ [])
+resends = (refl, refl, refl)

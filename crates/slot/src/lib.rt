@@ -1,17 +1,21 @@
-// A slot and the locator that it holds: its status, its expiry, and what two slots may not share. Depends on address and boolean.
+// A slot and the locator that it holds: its status, its expiry, and what two slots may not share. Depends on address, check_times and boolean.
 use address::Address;
 ghost use mathlib.Core.Path.{_≡_};
 ghost use Rattle.slot.specs.Found.{withStatus, isDeprecated, isNonce, heldAs};
 ghost use Rattle.slot.specs.Clashes.{sameNonce, clash};
+ghost use Rattle.slot.specs.Checks.{givenUp, badCheck};
 ghost use Rattle.slot.specs.Expiry.{isOver, expireSlot};
 
 // The slots of an association.
 pub const SLOT_COUNT: usize = 8;
 
-// The check that is out for an address: the nonce that its echo must hold, and the Update ID that it was sent with.
+// The check that is out for an address: the nonce that its echo must hold, the Update ID that it was sent with, the time of its issue, and how often it
+// was sent again.
 pub struct Check {
     pub nonce: u64,
     pub id: u32,
+    pub issued: u64,
+    pub resends: u8,
 }
 
 // UNVERIFIED, with its check; ACTIVE; DEPRECATED.
@@ -119,11 +123,41 @@ pub fn clashes(x: Slot, y: Slot) -> bool
     }
 }
 
-// The locator is over at the time: at or past its expiry.
+// The check of this status is given up at the time.
+fn is_given_up(status: Status, time: u64) -> bool
+    ensures { λ r. ⌜ r ≡ givenUp time status ⌝ }
+{
+    match status {
+        Status::Unverified(k) => check_times::is_given_up(k.issued, time),
+        Status::Active => false,
+        Status::Deprecated => false,
+    }
+}
+
+// The locator is over at the time: at or past its expiry, or its check is given up.
 pub fn is_over(l: Locator, time: u64) -> bool
     ensures { λ r. ⌜ r ≡ isOver time l ⌝ }
 {
-    l.expiry <= time
+    let status = l.status;
+    boolean::either(l.expiry <= time, is_given_up(status, time))
+}
+
+// The locator in the slot has a check that no association of this time may hold.
+pub fn has_bad_check(slot: Slot, time: u64) -> bool
+    ensures { λ r. ⌜ r ≡ heldAs (badCheck time) slot ⌝ }
+{
+    let holding = slot.holding;
+    match holding {
+        Holding::Empty => false,
+        Holding::Held(l) => {
+            let status = l.status;
+            match status {
+                Status::Unverified(k) => check_times::is_bad_check(k.issued, k.resends, time),
+                Status::Active => false,
+                Status::Deprecated => false,
+            }
+        }
+    }
 }
 
 // The slot at a time: a locator that is over is DEPRECATED.

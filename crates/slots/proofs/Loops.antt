@@ -110,5 +110,14 @@ module _ {A : Type 0} (f : A → A) where
   pub mapped-kept : {n : ℕ} {xs s : List A} (d : A) → Mapped n xs s → getD s n d ≡ f (getD s n d) → Mapped (n + 1) xs s
   mapped-kept {n} {xs} {s} d p q = rw (set-getD s n d) at (mapped-more d p q)
 
+  -- the element whose turn it is, is as it was
+  mapFirst-next : (n : ℕ) (xs : List A) (d : A) → getD (mapFirst n xs) n d ≡ getD xs n d
+  mapFirst-next zero xs d = refl
+  mapFirst-next (suc n) [] d = refl
+  mapFirst-next (suc n) (x ∷ xs) d = mapFirst-next n xs d
+
+  pub mapped-next : {n : ℕ} {xs s : List A} (d : A) → Mapped n xs s → getD s n d ≡ getD xs n d
+  mapped-next {n} {xs} d p = ap (λ (l : List A). getD l n d) (p .is) ∙ mapFirst-next n xs d
+
   pub mapped-all : {n : ℕ} {xs s : List A} → Mapped n xs s → length xs ≤ n → s ≡ map f xs
   mapped-all {n} {xs} p h = p .is ∙ mapFirst-all n xs h

@@ -1,10 +1,10 @@
-// The slots of an association, all of them: whether two clash, their expiry, and which nonces are outstanding. Depends on slot.
+// The slots of an association, all of them: whether two clash, their checks, their expiry, and which nonces are outstanding. Depends on slot.
 // The functions take the slots and not the association, so that they serve an association with several sets of slots.
 use slot::Holding;
 use slot::SLOT_COUNT;
 use slot::Slot;
 ghost use mathlib.Core.Path.{_≡_};
-ghost use Rattle.slots.specs.Rules.{clashing, expireAll, isOutstanding};
+ghost use Rattle.slots.specs.Rules.{clashing, badChecks, expireAll, isOutstanding};
 ghost use Rattle.slots.specs.Past.{past};
 
 // Two slots clash: one with one after it.
@@ -22,6 +22,22 @@ pub fn any_clash(slots: [Slot; SLOT_COUNT]) -> bool
                 return true;
             }
             j += 1;
+        }
+        i += 1;
+    }
+    false
+}
+
+// A slot has a check that no association of this time may hold.
+pub fn any_bad_check(slots: [Slot; SLOT_COUNT], time: u64) -> bool
+    ensures { λ r. ⌜ r ≡ badChecks time slots ⌝ }
+{
+    let held = slots;
+    let mut i: usize = 0;
+    while i < SLOT_COUNT {
+        let slot = held[i];
+        if slot::has_bad_check(slot, time) {
+            return true;
         }
         i += 1;
     }

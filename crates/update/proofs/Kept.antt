@@ -4,6 +4,7 @@ use mathlib.Core.Bool.{Bool, false}
 use mathlib.Core.List.{List}
 use Prim.Native.Nat.{ℕ, _+_}
 use lib.ListN.{length, take}
+use native.Mathlib.Omega.{arith}
 use borrow.Author.Tests.{ltb-false, lt-leb}
 use Rattle.packet.specs.declared.EchoResponse.{EchoResponse}
 use Rattle.packet.specs.declared.MoveFields.{MoveFields}
@@ -12,12 +13,14 @@ use Rattle.packet.specs.declared.Message.the-variants.{Refused, Move, Reply, Pe
 use Rattle.packet.specs.Readings.{readingOf, opaqueOf}
 use Rattle.locator.specs.declared.ListedLocator.{ListedLocator}
 use Rattle.slot.specs.Found.{slotCount}
-use Rattle.slots.proofs.Kept.{clear-pairs, pairs-clear}
+use Rattle.check_times.proofs.Moments.{good}
+use Rattle.slots.proofs.Kept.{clear-pairs, pairs-clear, Good, good-all, all-good}
 use Rattle.readdress.specs.Echoes.{verifyAll}
 use Rattle.readdress.specs.Checks.{refusal10}
 use Rattle.reply_form.specs.Replies.{nonceCount}
 use Rattle.readdress.specs.Moves.{newSlots}
 use Rattle.readdress.proofs.Settled.{verified-length, verified-apart}
+use Rattle.readdress.proofs.Carried.{verified-carried, moved-carried}
 use Rattle.readdress.proofs.Moved.{preference-kept, moved-length, moved-apart}
 use Rattle.association.specs.declared.Association.{Association}
 use Rattle.association.specs.Form.{idLimit, beyond}
@@ -43,6 +46,7 @@ reply-formed a e p =
             next = s .next;
             preferred = s .preferred;
             apart = pairs-clear (verifyAll e (a .slots)) (verified-apart e (a .slots) (clear-pairs (a .slots) (s .apart)));
+            checks = all-good (a .time) (verifyAll e (a .slots)) (verified-carried (Good (a .time)) e (a .slots) (good-all (a .time) (a .slots) (s .checks)));
           });
     }
 
@@ -54,7 +58,7 @@ check-formed a id p =
       whole = p .whole;
       unrefused =
           not-refused (afterCheck a id)
-          (record { time = s .time; aged = s .aged; credit = s .credit; next = s .next; preferred = s .preferred; apart = s .apart });
+          (record { time = s .time; aged = s .aged; credit = s .credit; next = s .next; preferred = s .preferred; apart = s .apart; checks = s .checks });
     }
 
 module _ (a : Association) (m : MoveFields) (set : List ListedLocator) (nonces : List ℕ) (eight : length nonces ≡ nonceCount) (p : Formed a) where
@@ -75,7 +79,11 @@ module _ (a : Association) (m : MoveFields) (set : List ListedLocator) (nonces :
               preferred =
                   preference-kept (a .time) (differs a m) (m .echo) set (a .preferred) (a .slots) (p .whole) (λ k. beyond k ≡ false) refl
                   (λ n h. lt-leb slotCount n h) (s .preferred);
-              apart = pairs-clear (newSlots set (a .next) nonces (placement a m set)) apart;
+              apart = pairs-clear (newSlots set (a .time) (a .next) nonces (placement a m set)) apart;
+              checks =
+                  all-good (a .time) (newSlots set (a .time) (a .next) nonces (placement a m set))
+                  (moved-carried (Good (a .time)) (a .time) (differs a m) (m .echo) set (a .preferred) (a .next) nonces (a .slots)
+                  (λ j h. good (a .time) 0 (a .time) (omega arith) (omega arith)) (good-all (a .time) (a .slots) (s .checks)));
             });
       }
 

@@ -68,9 +68,9 @@ refusal-9 = (refl, refl, refl)
 abbrev holding : (expiry : ℕ) → Status → Slot
 holding expiry s = slotOf (record { address = record { high = 1; low = 1 }; traffic = 0; expiry = expiry; status = s })
 
--- UNVERIFIED, with this check
+-- UNVERIFIED, with this check, issued at 100
 abbrev pub waiting : (nonce id : ℕ) → Status
-waiting nonce id = Unverified (record { nonce = nonce; id = id })
+waiting nonce id = Unverified (record { nonce = nonce; id = id; issued = 100; resends = 0 })
 
 -- an association at time 100, where the last ageing was at 97
 abbrev pub with : (outbound peer next expiry : ℕ) → Status → Association

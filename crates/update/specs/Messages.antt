@@ -73,7 +73,7 @@ afterMove a m set nonces = record {
   peer = newPeer m;
   next = a .next + checksOf a m set;
   preferred = newPreference set (placement a m set);
-  slots = newSlots set (a .next) nonces (placement a m set);
+  slots = newSlots set (a .time) (a .next) nonces (placement a m set);
 }
 
 -- a Check "stores its ID"

@@ -1,6 +1,6 @@
 -- The refusals of a message that are not judged below: 1, 2, 7, 9, 11 and 22, and what is Repeated. Refusal 0 is `association`'s, 3 to 6 are
 -- `packet`'s, 8 and 10 are `readdress`'s.
-use Prim.Native.Nat.{ℕ, _+_}
+use Prim.Native.Nat.{ℕ, _+_, _*_}
 use mathlib.Core.Bool.{Bool, false, not, _&&_, _||_}
 use mathlib.Core.List.{List}
 use lib.Dec.{ltb, eqb}
@@ -8,6 +8,8 @@ use lib.ListN.{length}
 use Rattle.octets.specs.Records.{some}
 use Rattle.locator.specs.Locators.{spiType}
 use Rattle.locator.specs.declared.ListedLocator.{ListedLocator}
+use Rattle.slot.specs.Found.{slotCount}
+use Rattle.reply_form.specs.Replies.{checkSize}
 use Rattle.association.specs.declared.PeerId.{PeerId}
 use Rattle.association.specs.declared.PeerId.the-variants.{NoneSeen, Highest}
 use Rattle.association.specs.Form.{idLimit}
@@ -15,7 +17,7 @@ use Rattle.association.specs.Start.{unusableSpi}
 
 -- what the reply of eight checks takes
 abbrev pub replyRoom : ℕ
-replyRoom = 384
+replyRoom = slotCount * checkSize
 
 -- refusal 1: "reply buffer below 384 bytes"
 abbrev pub refusal1 : (room : ℕ) → Bool

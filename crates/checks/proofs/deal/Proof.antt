@@ -7,10 +7,10 @@ use Rattle.checks.proofs.deal.Statement.{statement}
 use Rattle.checks.proofs.deal.Tie as tie
 
 abbrev Inv-loop : tie.InvT-loop
-Inv-loop listed count next offered held₀ k₀ i₀ held k i = Swept (take count listed) next offered held₀ held k i
+Inv-loop listed count time next offered held₀ k₀ i₀ held k i = Swept (take count listed) time next offered held₀ held k i
 
 abbrev μ-loop : tie.MeasureT-loop
-μ-loop listed count next offered held₀ k₀ i₀ held k i = 8 - i
+μ-loop listed count time next offered held₀ k₀ i₀ held k i = 8 - i
 
 loop-holds : tie.Need-loop-holds Inv-loop μ-loop
 loop-holds c = search swept-none
@@ -55,7 +55,7 @@ loop-less : tie.Need-loop-less Inv-loop μ-loop
 loop-less c = omega arith
 
 loop-again : tie.Need-loop-again Inv-loop μ-loop
-loop-again c = swept-new _ _ _ _ _ _ _ _ _ _ (c .before .before .before .before .before .loop .inv) (c .before .before .before .before .loop-test .taken) (c .before .before .awaits .ensures) (c .before .if1 .taken) (c .with-check .ensures)
+loop-again c = swept-new _ _ _ _ _ _ _ _ _ _ _ (c .before .before .before .before .before .loop .inv) (c .before .before .before .before .loop-test .taken) (c .before .before .awaits .ensures) (c .before .if1 .taken) (c .with-check .ensures)
 
 add-i-2 : tie.Need-add-i-2 Inv-loop μ-loop
 add-i-2 c = omega arith

@@ -24,7 +24,7 @@ deal-requires : tie.Need-deal-requires
 deal-requires c κs = suffices c
 
 returns : tie.Need-returns
-returns c = given-all _ _ _ _ _ (c .deal .ensures) (suffices (c .before))
+returns c = given-all _ _ _ _ _ _ (c .deal .ensures) (suffices (c .before))
 
 count-checks-requires : tie.Need-count-checks-requires
 count-checks-requires c κs = tt

@@ -1,0 +1,2 @@
+pub mod Resends
+pub mod Examples
