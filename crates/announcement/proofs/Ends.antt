@@ -6,9 +6,8 @@ use Prim.Native.Nat.{ℕ}
 use lib.ListN.{length, take}
 use Rattle.boolean.proofs.Laws.{apart, cond-all}
 use Rattle.association.specs.declared.Association.{Association}
-use Rattle.association.specs.declared.Outcome.{Outcome}
-use Rattle.association.specs.declared.Outcome.the-variants.{Accepted, Refused}
 use Rattle.association.specs.Form.{refusal0}
+use Rattle.association.proofs.Answers.{isRefused}
 use Rattle.announcement.specs.declared.OwnLocator.{OwnLocator}
 use Rattle.announcement.specs.Written.{announcementBytes}
 use Rattle.announcement.specs.Announcements.{refusal17, refusal18, refusal19, refusal20, refusal21, Announced, declined, announced, handled, bufferAfter}
@@ -36,10 +35,6 @@ module _ (P : Announced → Type 0) (a : Association) (refusals : (n : ℕ) → 
       (λ p5. done (record { sound = p0; few = p1; well = p2; usable = p3; id-left = p4; room-left = p5 })))))))
 
 -- ---- a refusal leaves all as lent
-abbrev pub isRefused : Outcome → Bool
-isRefused Accepted = false
-isRefused (Refused why) = true
-
 abbrev AsLent : Association → Announced → Type 0
 AsLent a h = isRefused (h .outcome) ≡ true → (h .left ≡ a) × (h .bytes ≡ [])
 

@@ -14,6 +14,10 @@ holding n traffic expiry s = slotOf (record { address = address n; traffic = tra
 abbrev pub held : (n : ℕ) → Status → Slot
 held n s = holding n 0 160 s
 
--- UNVERIFIED, with this check
+-- UNVERIFIED, with a check that was issued then and sent again so often
+abbrev pub issued : (nonce id time resends : ℕ) → Status
+issued nonce id time resends = Unverified (record { nonce = nonce; id = id; issued = time; resends = resends })
+
+-- the same, issued at 100 and not sent again
 abbrev pub checked : (nonce id : ℕ) → Status
-checked nonce id = Unverified (record { nonce = nonce; id = id })
+checked nonce id = issued nonce id 100 0

@@ -15,14 +15,13 @@ use Rattle.association.specs.declared.Association.{Association}
 use Rattle.association.specs.Form.{refused}
 use Rattle.association.specs.Start.{noAssociation, startOf}
 use Rattle.payload.specs.Calls.{arrivalOf, denied, sendOf}
-use Rattle.clock.specs.Ticks.{tickOf}
 use Rattle.reply_form.specs.Replies.{checksBytes}
 use Rattle.update.specs.declared.MessageOutcome.the-variants.{Moved, Replied, Repeated}
 use Rattle.update.specs.Messages.{messageOf}
 use Rattle.history.specs.ExamplesUnfolded.{calls}
 use Rattle.cases.specs.Packets.{packetOf, esp, idOf, echo, address, locator, bound, setOf, keymatIndex, moveParts, moveOf, echoingMove, replyOf}
 use Rattle.cases.specs.Held.{holding, checked}
-use Rattle.cases.specs.Tables.{Seen, status, prefers, answer, sent, Case, _gives_, statusAfter, message, told, declined}
+use Rattle.cases.specs.Tables.{Seen, status, prefers, answer, sent, Case, _gives_, statusAfter, message, told, declined, tick, passed, stopped}
 
 -- ---- associations
 -- the outbound SPI
@@ -91,6 +90,10 @@ buffer = replicate 384 0xff
 -- a byte too short
 abbrev short : List ℕ
 short = replicate 383 0xff
+
+-- what a tick is lent
+abbrev lent : List ℕ
+lent = replicate 320 0xff
 
 -- a locator for both kinds of traffic and 60 seconds, without P
 abbrev plain : (n : ℕ) → List ℕ
@@ -195,7 +198,7 @@ table =
     ∷ (message bad good true nonces buffer gives declined 0 bad buffer)
     ∷ (answer (arrivalOf bad 1) gives answer (refused 0 bad))
     ∷ (sent (sendOf bad 1) gives sent (denied 0 bad))
-    ∷ (answer (tickOf bad 100) gives answer (refused 0 bad))
+    ∷ (tick bad 100 lent gives stopped 0 bad lent)
     -- 1: "reply buffer below 384 bytes"
     ∷ (message found good true nonces short gives declined 1 found short)
     -- 2: "not marked authentic"
@@ -230,8 +233,11 @@ table =
     ∷ (statusAfter (address 4) (messageOf (used 4294967295) good true nonces buffer .association)
     gives status (some (checked 0x0102030405060708 4294967295)))
     -- 12: "time before the stored time, or 2^40 or more"
-    ∷ (answer (tickOf found 99) gives answer (refused 12 found))
-    ∷ (answer (tickOf found (2 ^ 40)) gives answer (refused 12 found))
+    ∷ (tick found 99 lent gives stopped 12 found lent)
+    ∷ (tick found (2 ^ 40) lent gives stopped 12 found lent)
+    -- 23: "Tick now needs a 320-byte buffer", and one with as many is accepted
+    ∷ (tick found 100 (replicate 319 0xff) gives stopped 23 found (replicate 319 0xff))
+    ∷ (tick found 100 lent gives passed 0 found lent)
     -- 13: "size outside the limit", of an arrival and of a send
     ∷ (answer (arrivalOf found 0) gives answer (refused 13 found))
     ∷ (sent (sendOf found 65536) gives sent (denied 13 found))
@@ -255,8 +261,10 @@ table =
     ∷ (brings (echoingMove other outbound 7 listed 10) gives refuses 8)
     ∷ (message found (moveOf other outbound 7 listed) true equal buffer gives refuses 9)
     ∷ (message (used (2 ^ 32)) good true equal buffer gives declined 10 (used (2 ^ 32)) buffer)
-    -- 0 and 12, 0 and 13, 13 and 14, 13 and 15
-    ∷ (answer (tickOf bad 99) gives answer (refused 0 bad))
+    -- 0 and 12, 0 and 23, 23 and 12, 0 and 13, 13 and 14, 13 and 15
+    ∷ (tick bad 99 lent gives stopped 0 bad lent)
+    ∷ (tick bad 100 [] gives stopped 0 bad [])
+    ∷ (tick found 99 (replicate 319 0xff) gives stopped 23 found (replicate 319 0xff))
     ∷ (sent (sendOf bad 0) gives sent (denied 0 bad))
     ∷ (sent (sendOf closed 0) gives sent (denied 13 closed))
     ∷ (sent (sendOf waiting 65536) gives sent (denied 13 waiting))

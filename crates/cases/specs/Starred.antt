@@ -25,7 +25,7 @@ use Rattle.update.specs.Messages.{messageOf}
 use Rattle.history.specs.ExamplesUnfolded.{calls}
 use Rattle.cases.specs.Packets.{packetOf, address, locator, keymatIndex, moveOf}
 use Rattle.cases.specs.Held.{held, checked}
-use Rattle.cases.specs.Tables.{Seen, number, status, answer, sent, Case, _gives_, statusAfter, message, told, declined}
+use Rattle.cases.specs.Tables.{Seen, number, status, answer, sent, Case, _gives_, statusAfter, message, told, declined, tick, passed}
 
 -- ---- what is handed in
 -- an association with the inbound SPI 0x1001
@@ -69,6 +69,10 @@ nonces = 0x0102030405060708 ∷ 11 ∷ 12 ∷ 13 ∷ 14 ∷ 15 ∷ 16 ∷ 17 ∷
 -- the shortest buffer that refusal 1 does not refuse
 abbrev buffer : List ℕ
 buffer = replicate 384 0xff
+
+-- the shortest buffer that refusal 23 does not refuse
+abbrev lent : List ℕ
+lent = replicate 320 0xff
 
 -- the first n of nine locators for 60 seconds, of addresses 1 to 9
 abbrev several : (n : ℕ) → List (List ℕ)
@@ -120,18 +124,18 @@ table =
     ∷ (number (agedBy 2 1000) gives number 765)
     ∷ (number (agedBy 1 1) gives number 0)
     -- "Last ageing 100: tick 104 keeps credit, 105 ages."
-    ∷ (answer (tickOf (verified 100 100 1000) 104) gives answer (accepted (verified 104 100 1000)))
-    ∷ (answer (tickOf (verified 100 100 1000) 105) gives answer (accepted (verified 105 105 875)))
+    ∷ (tick (verified 100 100 1000) 104 lent gives passed 0 (verified 104 100 1000) lent)
+    ∷ (tick (verified 100 100 1000) 105 lent gives passed 0 (verified 105 105 875) lent)
     -- order 3, in the place of document 01's case at 117: "a tick 17 seconds after the last ageing holds three ageings: 1,000 becomes 669, and the last ageing
     -- stands at 15 seconds, leaving two towards the next": then 119 ages nothing and 120 once
-    ∷ (answer (tickOf (verified 100 100 1000) 117) gives answer (accepted (verified 117 115 669)))
-    ∷ (answer (tickOf (verified 117 115 669) 119) gives answer (accepted (verified 119 115 669)))
-    ∷ (answer (tickOf (verified 119 115 669) 120) gives answer (accepted (verified 120 120 585)))
+    ∷ (tick (verified 100 100 1000) 117 lent gives passed 0 (verified 117 115 669) lent)
+    ∷ (tick (verified 117 115 669) 119 lent gives passed 0 (verified 119 115 669) lent)
+    ∷ (tick (verified 119 115 669) 120 lent gives passed 0 (verified 120 120 585) lent)
     -- "Lifetime 60 set at 100: kept at 159, DEPRECATED at 160.": set by a start, and by a Move where a start set 30
-    ∷ (statusAfter (address 1) (tickOf (startedFor 60) 159 .association) gives status (some Active))
-    ∷ (statusAfter (address 1) (tickOf (startedFor 60) 160 .association) gives status (some Deprecated))
-    ∷ (statusAfter (address 1) (tickOf (left (startedFor 30) (listing 1 0x2001)) 159 .association) gives status (some Active))
-    ∷ (statusAfter (address 1) (tickOf (left (startedFor 30) (listing 1 0x2001)) 160 .association) gives status (some Deprecated))
+    ∷ (statusAfter (address 1) (tickOf (startedFor 60) 159 lent .association) gives status (some Active))
+    ∷ (statusAfter (address 1) (tickOf (startedFor 60) 160 lent .association) gives status (some Deprecated))
+    ∷ (statusAfter (address 1) (tickOf (left (startedFor 30) (listing 1 0x2001)) 159 lent .association) gives status (some Active))
+    ∷ (statusAfter (address 1) (tickOf (left (startedFor 30) (listing 1 0x2001)) 160 lent .association) gives status (some Deprecated))
     -- "L of 24, 28, 56, 224 take 32, 32, 64, 232 bytes."
     ∷ (number (takes 24) gives number 32)
     ∷ (number (takes 28) gives number 32)

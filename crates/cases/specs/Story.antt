@@ -1,10 +1,12 @@
--- Runs of calls from a start: an answer that comes too late, one that comes in time, and one to a check that was replaced.
+-- Runs of calls from a start: an answer that comes too late, one that comes in time, and one to a check that was replaced; a check that is lost and sent again, and
+-- one that is given up.
 use Prim.Native.Nat.{ℕ, _+_}
 use mathlib.Core.Path.{_≡_, refl}
 use mathlib.Core.Bool.{true}
 use mathlib.Core.Option.{Option, none, some}
-use mathlib.Core.List.{List, [], _∷_, map}
+use mathlib.Core.List.{List, [], _∷_, _++_, map}
 use lib.ListN.{replicate}
+use Rattle.octets.specs.ExamplesHex.{hex}
 use Rattle.refusal.specs.Table.{refusal}
 use Rattle.slot.specs.declared.Status.{Status}
 use Rattle.slot.specs.declared.Status.the-variants.{Active, Deprecated}
@@ -14,12 +16,12 @@ use Rattle.association.specs.declared.PeerId.the-variants.{Highest}
 use Rattle.association.specs.declared.Association.{Association}
 use Rattle.association.specs.Form.{accepted}
 use Rattle.association.specs.Start.{started, startOf}
-use Rattle.history.specs.Calls.{Call, message, arrival, send, tick, Answered, refusedBy, done, repeated, grantedTo, Step, stepOf, history, after}
+use Rattle.history.specs.Calls.{Call, message, arrival, send, tick, Answered, refusedBy, done, repeated, grantedTo, lentAfter, Step, stepOf, history, after}
 use Rattle.history.specs.Ledger.{arrived, granted, ageing, ledger, arrivedIn, grantedIn}
 use Rattle.history.specs.Words.{finds, leaves, retires, outstandingFrom, outstanding}
 use Rattle.history.specs.ExamplesUnfolded.{calls}
 use Rattle.cases.specs.Packets.{address, locator, moveOf, replyOf}
-use Rattle.cases.specs.Held.{held, checked}
+use Rattle.cases.specs.Held.{held, issued, checked}
 
 -- ---- the calls
 -- the association that the start makes: it holds address 1, ACTIVE
@@ -58,6 +60,10 @@ third = move 2 two 0x71
 -- the answer to a check: a Reply that echoes its nonce
 abbrev answering : (nonce : ℕ) → Call
 answering nonce = brings (replyOf nonce) 0x81
+
+-- a tick that is lent what it needs
+abbrev tickAt : (time : ℕ) → Call
+tickAt time = tick time (replicate 320 0xff)
 
 -- ---- what is asked of them
 -- what the calls answer
@@ -137,12 +143,54 @@ update-ids : answersOf (move 0 one 0x51 ∷ move 0 one 0x51 ∷ move 5 one 0x51 
 unfolding calls history
 update-ids = refl
 
+-- ---- order 4
+-- the buffer that a tick at this time leaves, after the calls
+abbrev resentAt : List Call → (time : ℕ) → List (List ℕ)
+resentAt cs time = lentAfter (after begun cs) (tickAt time)
+
+-- the first Move's check, sent again
+abbrev again : List (List ℕ)
+again = (hex "0041000c 00000000 00001001 00001001 01810004 00000000 03810008 00000000 00000051 00000000" ++ replicate 280 0xff) ∷ []
+
+-- nothing is sent again
+abbrev silence : List (List ℕ)
+silence = replicate 320 0xff ∷ []
+
+-- the check is lost, and sent again at 101, with its Update ID and nonce; at 101 not a second time; at 105, after the moments at 2 and 4 seconds, once; at 108 for the
+-- last time; and the answer to a resend makes the address ACTIVE
+lost : (resentAt (first ∷ []) 101 ≡ again)
+    × (resentAt (first ∷ tickAt 101 ∷ []) 101 ≡ silence)
+    × (resentAt (first ∷ tickAt 101 ∷ []) 105 ≡ again)
+    × (leaves (address 2) (next (first ∷ tickAt 101 ∷ []) (tickAt 105)) ≡ some (issued 0x51 0 100 3))
+    × (resentAt (first ∷ tickAt 101 ∷ tickAt 105 ∷ []) 107 ≡ silence)
+    × (resentAt (first ∷ tickAt 101 ∷ tickAt 105 ∷ []) 108 ≡ again)
+    × (resentAt (first ∷ tickAt 108 ∷ []) 115 ≡ silence)
+    × (leaves (address 2) (next (first ∷ tickAt 101 ∷ []) (answering 0x51)) ≡ some Active)
+    × (resentAt (first ∷ answering 0x51 ∷ []) 101 ≡ silence)
+unfolding calls history after
+lost = (refl, refl, refl, refl, refl, refl, refl, refl, refl)
+
+-- "step 3 keeps" the check, with its issue time and its count: a Move at 101 that lists the address leaves them, and at 108 the check is sent again
+kept : (leaves (address 2) (next (first ∷ tickAt 101 ∷ []) third) ≡ some (issued 0x51 0 100 1)) × (resentAt (first ∷ tickAt 101 ∷ third ∷ []) 108 ≡ again)
+unfolding calls history after
+kept = (refl, refl)
+
+-- given up at 116, and nothing is sent again then; the answer is too late; a Move that lists the address brings a new check, of the next Update ID and the time of that
+-- tick
+ended : (leaves (address 2) (next (first ∷ tickAt 108 ∷ []) (tickAt 115)) ≡ some (issued 0x51 0 100 4))
+    × (leaves (address 2) (next (first ∷ []) (tickAt 116)) ≡ some Deprecated)
+    × (resentAt (first ∷ []) 116 ≡ silence)
+    × (answersOf (first ∷ tickAt 116 ∷ answering 0x51 ∷ third ∷ []) ≡ done ∷ done ∷ refusedBy (refusal 8) ∷ done ∷ [])
+    × (leaves (address 2) (next (first ∷ tickAt 116 ∷ []) third) ≡ some (issued 0x71 1 116 0))
+unfolding calls history after
+ended = (refl, refl, refl, refl, refl)
+
 -- ---- the credit
 -- 1,000 bytes arrive; a new SPI leaves address 1 UNVERIFIED; sends and ticks follow
 abbrev spending : List Call
-spending = arrival 1000 ∷ brings (moveOf 0x2001 0x2002 0 one) 0x51 ∷ send 1000 ∷ send 100 ∷ tick 104 ∷ tick 117 ∷ send 500 ∷ send 102 ∷ []
+spending = arrival 1000 ∷ brings (moveOf 0x2001 0x2002 0 one) 0x51 ∷ send 1000 ∷ send 100 ∷ tickAt 104 ∷ tickAt 115 ∷ send 500 ∷ send 102 ∷ []
 
--- what they put in the ledger: a refused send and a tick that ages nothing put nothing, and one 17 seconds after the last ageing three ageings. Of 1,000 bytes
+-- what they put in the ledger: a refused send and a tick that ages nothing put nothing, and one 15 seconds after the last ageing three ageings. Of 1,000 bytes
 -- that arrived 600 were granted, and after the ageings 102 are left, which do not cover 102
 spent : (answersOf spending
     ≡ done ∷ done ∷ refusedBy (refusal 15) ∷ grantedTo 0 ∷ done ∷ done ∷ grantedTo 0 ∷ refusedBy (refusal 15) ∷ [])

@@ -13,9 +13,9 @@ use Rattle.reply_form.specs.Replies.{overwritten}
 use Rattle.resend.specs.declared.Resent.{Resent}
 use Rattle.resend.specs.Resends.{refusal23, sentBytes, sentSlots}
 use Rattle.association.specs.declared.Association.{Association}
-use Rattle.association.specs.declared.Outcome.{Outcome}
-use Rattle.association.specs.declared.Outcome.the-variants.{Accepted, Refused}
+use Rattle.association.specs.declared.Outcome.the-variants.{Accepted}
 use Rattle.association.specs.Form.{refusal0, withClock}
+use Rattle.association.proofs.Answers.{isRefused}
 use Rattle.clock.specs.declared.TickAnswer.{TickAnswer}
 use Rattle.clock.specs.Ends.{refusedWith}
 use Rattle.clock.specs.Ticks.{resends, Ticked, declined, passed, handled, answerOf, tickOf, bufferAfter}
@@ -36,10 +36,6 @@ module _ (P : Ticked → Type 0) (a : Association) (refusals : (n : ℕ) → P (
       (λ p2. done (record { sound = p0; wide = p1; timely = p2 }))))
 
 -- ---- a refusal leaves all as lent
-abbrev pub isRefused : Outcome → Bool
-isRefused Accepted = false
-isRefused (Refused why) = true
-
 abbrev AsLent : Association → Ticked → Type 0
 AsLent a h = isRefused (h .outcome) ≡ true → (h .left ≡ a) × (h .bytes ≡ [])
 

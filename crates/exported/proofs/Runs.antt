@@ -12,7 +12,8 @@ use Rattle.association.specs.declared.Association.{Association}
 use Rattle.association.specs.Form.{refusal0}
 use Rattle.payload.specs.declared.SendAnswer.{SendAnswer}
 use Rattle.payload.specs.Calls.{arrivalOf, sendOf}
-use Rattle.clock.specs.Ticks.{tickOf}
+use Rattle.clock.specs.declared.TickAnswer.{TickAnswer}
+use Rattle.clock.specs.Ticks as ticks
 use Rattle.update.specs.declared.MessageAnswer.{MessageAnswer}
 use Rattle.update.specs.Messages.{messageOf, bufferAfter}
 use Rattle.exported.specs.declared.Made.{Made}
@@ -26,6 +27,11 @@ use Rattle.exported.proofs.Folds.{mix-next}
 pub receives : {answer expected : MessageAnswer} {end written checks n : ℕ} → answer ≡ expected → end ≡ calls.endNumber (answer .outcome) → written ≡ mixed end (answer .written) →
     checks ≡ mixed written (answer .checks) → n ≡ mixed checks (answer .keymat) → calls.made (answer .association) n ≡ calls.received expected
 receives {answer} e p q r s = ap (calls.made (answer .association)) (mix-next _ s (mix-next _ r (mix-next _ q p))) ∙ ap calls.received e
+
+-- ---- a tick
+pub ticks-so : {answer expected : TickAnswer} {end n : ℕ} → answer ≡ expected → end ≡ calls.outcomeNumber (answer .outcome) → n ≡ mixed end (answer .written) →
+    calls.made (answer .association) n ≡ calls.ticked expected
+ticks-so {answer} e p q = ap (calls.made (answer .association)) (mix-next _ q p) ∙ ap calls.ticked e
 
 -- ---- a call
 -- a call that is given this
@@ -53,10 +59,10 @@ module _ (x : Lent) where
   unfolding calls.madeOf calls.bufferOf
   makes-send k e f = rw (k, f, e) (refl, refl)
 
-  pub makes-tick : x .call ≡ calls.tickCall → {time : ℕ} {answer : Answer} {n : ℕ} → time ≡ (x .association .time + 1) % 2 ^ 64 → answer ≡ tickOf (x .association) time →
-      n ≡ calls.outcomeNumber (answer .outcome) → Makes x (calls.made (answer .association) n) (x .buffer)
+  pub makes-tick : x .call ≡ calls.tickCall → {r : Made} {after : List ℕ} → r ≡ calls.ticked (ticks.tickOf (x .association) (calls.later (x .association)) (x .buffer)) →
+      after ≡ ticks.bufferAfter (x .association) (calls.later (x .association)) (x .buffer) → Makes x r after
   unfolding calls.madeOf calls.bufferOf
-  makes-tick k t e f = rw (k, f, e, t) (refl, refl)
+  makes-tick k e f = rw k (e, f)
 
   pub makes-first : x .call ≡ calls.firstCall → {r : Made} {after : List ℕ} → r ≡ calls.received (messageOf (x .association) (x .first) true calls.firstNonces (x .buffer)) →
       after ≡ bufferAfter (x .association) (x .first) true calls.firstNonces (x .buffer) → Makes x r after

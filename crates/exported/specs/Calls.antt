@@ -15,7 +15,8 @@ use Rattle.payload.specs.declared.SendOutcome.{SendOutcome}
 use Rattle.payload.specs.declared.SendOutcome.the-variants.{Granted, Denied}
 use Rattle.payload.specs.declared.SendAnswer.{SendAnswer}
 use Rattle.payload.specs.Calls.{arrivalOf, sendOf}
-use Rattle.clock.specs.Ticks.{tickOf}
+use Rattle.clock.specs.declared.TickAnswer.{TickAnswer}
+use Rattle.clock.specs.Ticks as ticks
 use Rattle.update.specs.declared.MessageOutcome.{MessageOutcome}
 use Rattle.update.specs.declared.MessageOutcome.the-variants.{Moved, Replied, Responded, Repeated, Declined}
 use Rattle.update.specs.declared.MessageAnswer.{MessageAnswer}
@@ -88,10 +89,14 @@ respondedNumber = 258
 abbrev pub repeatedNumber : ℕ
 repeatedNumber = 259
 
--- an arrival or a tick
+-- an arrival
 abbrev pub outcomeNumber : Outcome → ℕ
 outcomeNumber Accepted = acceptedNumber
 outcomeNumber (Refused why) = numberOf why
+
+-- a tick, with the bytes that it writes
+abbrev pub tickNumber : TickAnswer → ℕ
+tickNumber answer = mixed (outcomeNumber (answer .outcome)) (answer .written)
 
 -- a send, with the slot that it is granted
 abbrev pub sendNumber : SendOutcome → ℕ
@@ -115,9 +120,17 @@ messageNumber answer = foldedFrom (endNumber (answer .outcome)) (answer .written
 abbrev pub made : Association → (number : ℕ) → Made
 made a number = record { association = a; number = number }
 
--- an arrival or a tick that answers so
+-- an arrival that answers so
 abbrev pub madeBy : Answer → Made
 madeBy answer = made (answer .association) (outcomeNumber (answer .outcome))
+
+-- a second later
+abbrev pub later : Association → ℕ
+later a = (a .time + 1) % 2 ^ 64
+
+-- a tick that answers so
+abbrev pub ticked : TickAnswer → Made
+ticked answer = made (answer .association) (tickNumber answer)
 
 -- a send that answers so
 abbrev pub sent : SendAnswer → Made
@@ -132,7 +145,7 @@ unfoldable pub madeOf : (first second : List ℕ) → Association → (buffer : 
 madeOf first second a buffer call =
     cond (eqb call arrivalCall) (madeBy (arrivalOf a arrivalSize))
     (cond (eqb call sendCall) (sent (sendOf a sendSize))
-    (cond (eqb call tickCall) (madeBy (tickOf a ((a .time + 1) % 2 ^ 64)))
+    (cond (eqb call tickCall) (ticked (ticks.tickOf a (later a) buffer))
     (cond (eqb call firstCall) (received (messageOf a first true firstNonces buffer))
     (cond (eqb call secondCall) (made a (messageNumber (messageOf a second true secondNonces buffer)))
     (cond (eqb call testCall) (made a (bitOf (refusal0 a)))
@@ -141,9 +154,10 @@ madeOf first second a buffer call =
 -- the buffer's bytes after it
 unfoldable pub bufferOf : (first second : List ℕ) → Association → (buffer : List ℕ) → (call : ℕ) → List ℕ
 bufferOf first second a buffer call =
-    cond (eqb call firstCall) (bufferAfter a first true firstNonces buffer)
+    cond (eqb call tickCall) (ticks.bufferAfter a (later a) buffer)
+    (cond (eqb call firstCall) (bufferAfter a first true firstNonces buffer)
     (cond (eqb call secondCall) (bufferAfter a second true secondNonces buffer)
-    buffer)
+    buffer))
 
 -- ---- calls one after another
 -- what is held between them: the association, the buffer's bytes, and the running number

@@ -37,7 +37,8 @@ use Rattle.association.specs.Start.{startOf}
 use Rattle.credit.specs.Clock.{agedBy}
 use Rattle.payload.specs.declared.SendOutcome.the-variants.{Granted, Denied}
 use Rattle.payload.specs.Calls.{arrivalOf, sendOf}
-use Rattle.clock.specs.Ticks.{tickOf}
+use Rattle.resend.specs.Resends.{resentBytes}
+use Rattle.clock.specs.Ticks as ticks
 use Rattle.readdress.specs.Echoes.{verifyAll}
 use Rattle.readdress.specs.Steps.{rebind, entryFor, renewAll, retireAll, placeAll, markedSlot}
 use Rattle.readdress.specs.Checks as checks
@@ -121,9 +122,14 @@ nonces : firstNonces ++ secondNonces ≡ 11 ∷ 12 ∷ 13 ∷ 14 ∷ 15 ∷ 16 �
 nonces = refl
 
 -- ---- calls
+-- a tick that is accepted and writes nothing
+abbrev silent : ℕ
+silent = folded (256 ∷ 0 ∷ [])
+
 -- an arrival, a send to the ACTIVE address, two ticks, the test of refusal 0, and a byte that names no call
-plain : callsRun (0 ∷ 1 ∷ 2 ∷ 2 ∷ 5 ∷ 9 ∷ []) [] [] (7 ∷ []) ≡ record { association = left 1000; buffer = 7 ∷ []; number = folded (256 ∷ 1280 ∷ 256 ∷ 256 ∷ 0 ∷ 0 ∷ []) }
-unfolding mixed madeOf bufferOf runOf startOf arrivalOf sendOf tickOf refusal0 clashing clash pathOf agedBy lowest legal records.some
+plain : callsRun (0 ∷ 1 ∷ 2 ∷ 2 ∷ 5 ∷ 9 ∷ []) [] [] (replicate 320 7)
+    ≡ record { association = left 1000; buffer = replicate 320 7; number = folded (256 ∷ 1280 ∷ silent ∷ silent ∷ 0 ∷ 0 ∷ []) }
+unfolding mixed madeOf bufferOf runOf startOf arrivalOf sendOf resentBytes ticks.handled refusal0 clashing clash pathOf agedBy lowest legal records.some
 plain = refl
 
 -- the test of refusal 0 of an association whose credit is over the limit, which other calls refuse
@@ -174,3 +180,11 @@ buffers : (run [] moving (4 ∷ []) .buffer ≡ check "00000015" ++ replicate 33
     × (run moving moving (3 ∷ 4 ∷ []) .buffer ≡ hex "01c10004 00000001" ++ (drop 8 (check "0000000b") ++ replicate 336 0xee))
 unfolding mixed madeOf bufferOf runOf startOf handled handleMove afterMove placed settled verifyAll rebind renewAll retireAll entryFor placeAll markedSlot lowest checks.checkCount checks.checked checks.twice refusal0 clashing clash legal readingOf kindOf isMove falls occurs records.records records.some refusedType wrongLength illForm twice marks moveBytes checksBytes parameterBytes bytesOf
 buffers = (refl, refl)
+
+-- a tick after the Move sends its check again, over the beginning of the reply
+resends : let after = run moving [] (3 ∷ 2 ∷ []) in
+    (after .number ≡ folded (moved ∷ folded (256 ∷ 40 ∷ []) ∷ []))
+    × (after .buffer
+    ≡ hex "0041000c 00000000 00001001 00001001 01810004 00000000 03810008 00000000 0000000b 00000000" ++ (drop 40 (check "0000000b") ++ replicate 336 0xee))
+unfolding mixed madeOf bufferOf runOf startOf handled handleMove afterMove placed settled verifyAll rebind renewAll retireAll entryFor placeAll markedSlot lowest checks.checkCount checks.checked checks.twice refusal0 clashing clash legal readingOf kindOf isMove falls occurs records.records records.some refusedType wrongLength illForm twice marks moveBytes checksBytes parameterBytes bytesOf resentBytes ticks.handled agedBy
+resends = (refl, refl)

@@ -17,10 +17,11 @@ ghost use mathlib.Core.Path.{_≡_};
 ghost use mathlib.Core.Bool.{true};
 ghost use lib.ListN.{take};
 ghost use Rattle.packet.specs.Readings.{readingOf};
+ghost use Rattle.clock.specs.Ticks as ticks;
 ghost use Rattle.update.specs.Messages as messages;
 ghost use Rattle.exported.specs.Folds.{mixed, foldedFrom, folded};
 ghost use Rattle.exported.specs.Readings.{bitOf, echoNumbers, locatorNumbers, listedNumbers, moveNumbers, checkNumbers, readingNumbers};
-ghost use Rattle.exported.specs.Calls.{outcomeNumber, sendNumber, endNumber, received, madeOf, bufferOf, callsRun, runNumber};
+ghost use Rattle.exported.specs.Calls.{outcomeNumber, sendNumber, endNumber, later, ticked, received, madeOf, bufferOf, callsRun, runNumber};
 
 // The numbers that the four kinds of reading begin with.
 const MOVE_KIND: u64 = 1;
@@ -231,6 +232,21 @@ fn receive(a: Association, packet: &[u8], nonces: [u64; NONCE_COUNT], buffer: &m
     }
 }
 
+// A tick a second later, with the bytes that it writes.
+fn tick(a: Association, buffer: &mut [u8]) -> Made
+    ensures { λ r. ⌜ r ≡ ticked (ticks.tickOf a (later a) (now (buffer .entry))) ⌝ }
+    ensures { λ _. ⌜ now (buffer .exit) ≡ ticks.bufferAfter a (later a) (now (buffer .entry)) ⌝ }
+{
+    let answer = clock::tick(a, wrapping_add_u64(a.time, 1), buffer);
+    let outcome = answer.outcome;
+    let number = mix(of_outcome(outcome), answer.written as u64);
+    let association = answer.association;
+    Made {
+        association,
+        number,
+    }
+}
+
 // The call that a byte names. The second message's association is not kept.
 fn make(a: Association, call: u8, first: &[u8], second: &[u8], buffer: &mut [u8]) -> Made
     ensures { λ r. ⌜ r ≡ madeOf (now (first .entry)) (now (second .entry)) a (now (buffer .entry)) call ⌝ }
@@ -257,16 +273,7 @@ fn make(a: Association, call: u8, first: &[u8], second: &[u8], buffer: &mut [u8]
                 number,
             }
         }
-        TICK_CALL => {
-            let answer = clock::tick(a, wrapping_add_u64(a.time, 1));
-            let outcome = answer.outcome;
-            let number = of_outcome(outcome);
-            let association = answer.association;
-            Made {
-                association,
-                number,
-            }
-        }
+        TICK_CALL => tick(a, buffer),
         FIRST_CALL => receive(a, first, FIRST_NONCES, buffer),
         SECOND_CALL => {
             let made = receive(a, second, SECOND_NONCES, buffer);

@@ -28,6 +28,7 @@ use Rattle.association.specs.declared.Association.{Association}
 use Rattle.association.specs.declared.Answer.{Answer}
 use Rattle.association.specs.declared.Outcome.{Outcome}
 use Rattle.association.specs.declared.Outcome.the-variants.{Accepted, Refused}
+use Rattle.association.proofs.Answers.{isRefused}
 use Rattle.association.proofs.Sound.{Keeps}
 use Rattle.association.proofs.Started.{none-refused}
 use Rattle.payload.specs.Calls.{arrivalOf, sendOf, sendTo, granted, denied}
@@ -46,7 +47,7 @@ use Rattle.update.proofs.Untouched.{isDeclined, message-untouched, declined-buf
 use Rattle.update.proofs.Kept.{message-keeps}
 use Rattle.announcement.specs.declared.OwnLocator.{OwnLocator}
 use Rattle.announcement.specs.Announcements as announcements
-use Rattle.announcement.proofs.Ends.{isRefused, announcement-ends, refused-buffer}
+use Rattle.announcement.proofs.Ends.{announcement-ends, refused-buffer}
 use Rattle.announcement.proofs.Kept.{announcement-keeps}
 use Rattle.history.specs.Calls.{Call, message, arrival, send, tick, announce, Answered, refusedBy, ofOutcome, ofSend, ofMessage, done, repeated, grantedTo, answers, returned, lent, lentAfter, isAccepted, after}
 use Rattle.history.specs.Ledger.{held, entriesOf, lastOf}

@@ -41,7 +41,7 @@ use Rattle.update.proofs.Cases.{reply-ends, move-ends, check-ends, message-ends
 use Rattle.announcement.specs.declared.OwnLocator.{OwnLocator}
 use Rattle.announcement.specs.Announcements as announcements
 use Rattle.announcement.proofs.Ends.{announcement-ends}
-use Rattle.history.specs.Calls.{Call, message, arrival, send, tick, announce, Answered, refusedBy, ofOutcome, ofSend, ofMessage, answers, returned, Step, stepOf, history, after}
+use Rattle.history.specs.Calls.{Call, message, arrival, send, tick, announce, Answered, refusedBy, done, grantedTo, ofOutcome, ofSend, ofMessage, answers, returned, Step, stepOf, history, after}
 use Rattle.history.specs.Issued.{checksBy, checksIn, announcedIn, idsIn, nextId, Takes, Issues, tickedAt, timeOr, lastTick, isCheck, isOutstanding}
 use Rattle.history.proofs.Traces.{isHeeded}
 
@@ -76,14 +76,24 @@ record NotedBy (P : Check → Type 0) (a : Association) (g : Message) (listed : 
   carried : ((k : Check) → k .issued ≡ a .time → a .next ≤ k .id → k .id < h .left .next → P k) → All (Carries P) (a .slots) → All (Carries P) (h .left .slots)
 
 module _ (P : Check → Type 0) (u : Uncounted P) where
+  -- a call that takes no Update ID, tells no time and leaves the next own ID, the time and the slots
+  still : (a left : Association) (c : Call) (r : Answered) → checksIn a c r + announcedIn c r ≡ 0 → tickedAt c r ≡ none → left .next ≡ a .next → left .time ≡ a .time →
+      left .slots ≡ a .slots → Noted P a c r left
+  still a left c r none-taken no-time n t s = record {
+    next = omega arith;
+    clock = rw no-time (sym t);
+    carried = λ f p. rw s p;
+    ended = λ time e. no-tick time (sym no-time ∙ e);
+  }
+
   refused-noted : (a : Association) (c : Call) (r : Refusal) → Noted P a c (refusedBy r) a
   refused-noted a (message packet authentic nonces eight buffer) r =
-      record { next = omega arith; clock = refl; carried = λ f p. p; ended = λ t e. no-tick t e }
-  refused-noted a (arrival size) r = record { next = omega arith; clock = refl; carried = λ f p. p; ended = λ t e. no-tick t e }
-  refused-noted a (send size) r = record { next = omega arith; clock = refl; carried = λ f p. p; ended = λ t e. no-tick t e }
-  refused-noted a (tick time buffer) r = record { next = omega arith; clock = refl; carried = λ f p. p; ended = λ t e. no-tick t e }
+      still a a (message packet authentic nonces eight buffer) (refusedBy r) refl refl refl refl refl
+  refused-noted a (arrival size) r = still a a (arrival size) (refusedBy r) refl refl refl refl refl
+  refused-noted a (send size) r = still a a (send size) (refusedBy r) refl refl refl refl refl
+  refused-noted a (tick time buffer) r = still a a (tick time buffer) (refusedBy r) refl refl refl refl refl
   refused-noted a (announce list count inbound keymat buffer) r =
-      record { next = omega arith; clock = refl; carried = λ f p. p; ended = λ t e. no-tick t e }
+      still a a (announce list count inbound keymat buffer) (refusedBy r) refl refl refl refl refl
 
   arrival-noted : (a : Association) (size : ℕ) → Noted P a (arrival size) (answers a (arrival size)) (returned a (arrival size))
   unfolding arrivalOf
@@ -91,17 +101,17 @@ module _ (P : Check → Type 0) (u : Uncounted P) where
       cond-all (λ (r : Answer). Noted P a (arrival size) (ofOutcome (r .outcome)) (r .association)) (refusal0 a) (refused 0 a) _ (λ e. refused-noted a (arrival size) (refusal 0))
       (λ e. cond-all (λ (r : Answer). Noted P a (arrival size) (ofOutcome (r .outcome)) (r .association)) (refusal13 size) (refused 13 a)
       (accepted (withCredit a (credited (a .credit) size))) (λ e. refused-noted a (arrival size) (refusal 13))
-      (λ e. record { next = omega arith; clock = refl; carried = λ f p. p; ended = λ t e. no-tick t e }))
+      (λ e. still a (withCredit a (credited (a .credit) size)) (arrival size) done refl refl refl refl refl))
 
   abbrev NotedSend : Association → (size : ℕ) → SendAnswer → Type 0
   NotedSend a size r = Noted P a (send size) (ofSend (r .outcome)) (r .association)
 
   to-noted : (a : Association) (size : ℕ) (k : Path) → NotedSend a size (sendTo a size k)
   to-noted a size NoCarrier = refused-noted a (send size) (refusal 14)
-  to-noted a size (ToActive n) = record { next = omega arith; clock = refl; carried = λ f p. p; ended = λ t e. no-tick t e }
+  to-noted a size (ToActive n) = still a a (send size) (grantedTo n) refl refl refl refl refl
   to-noted a size (ToUnverified n) =
       cond-all (NotedSend a size) (covers (a .credit) size) (granted n (withCredit a (a .credit - size))) (denied 15 a)
-      (λ q. record { next = omega arith; clock = refl; carried = λ f p. p; ended = λ t e. no-tick t e })
+      (λ q. still a (withCredit a (a .credit - size)) (send size) (grantedTo n) refl refl refl refl refl)
       (λ q. refused-noted a (send size) (refusal 15))
 
   send-noted : (a : Association) (size : ℕ) → NotedSend a size (sendOf a size)
@@ -136,20 +146,24 @@ module _ (P : Check → Type 0) (u : Uncounted P) where
       (λ n. refused-noted a (announce list count inbound keymat buffer) (refusal n)) list count inbound keymat (length buffer)
       (λ p. record { next = omega arith; clock = refl; carried = λ f p. p; ended = λ t e. no-tick t e })
 
+  -- a message that leaves all but the highest Update ID of the peer, and issues nothing
+  quiet : (a : Association) (g : Message) (listed : List ListedLocator) (h : Handled) → cond (isHeeded (ofMessage (h .outcome))) (checksBy a g listed) 0 ≡ 0 → h .left .next ≡ a .next →
+      h .left .time ≡ a .time → h .left .slots ≡ a .slots → NotedBy P a g listed h
+  quiet a g listed h none-taken n t s = record { next = omega arith; clock = sym t; carried = λ f p. rw s p }
+
   read-noted : (a : Association) (packet : List ℕ) (g : Message) (listed : List ListedLocator) (nonces : List ℕ) →
       NotedBy P a g listed (handleMessage a packet g listed nonces)
   unfolding afterMove
-  read-noted a packet (Refused why) listed nonces = record { next = omega arith; clock = refl; carried = λ f p. p }
+  read-noted a packet (Refused why) listed nonces = quiet a (Refused why) listed _ refl refl refl refl
   read-noted a packet (PeerCheck c) listed nonces =
-      check-ends (NotedBy P a (PeerCheck c) listed) a (λ n. record { next = omega arith; clock = refl; carried = λ f p. p }) (c .id) (opaqueOf packet c)
-      (λ q. record { next = omega arith; clock = refl; carried = λ f p. p }) (λ q. record { next = omega arith; clock = refl; carried = λ f p. p })
+      check-ends (NotedBy P a (PeerCheck c) listed) a (λ n. quiet a (PeerCheck c) listed _ refl refl refl refl) (c .id) (opaqueOf packet c)
+      (λ q. quiet a (PeerCheck c) listed _ refl refl refl refl) (λ q. quiet a (PeerCheck c) listed _ refl refl refl refl)
   read-noted a packet (Reply e) listed nonces =
-      reply-ends (NotedBy P a (Reply e) listed) a (λ n. record { next = omega arith; clock = refl; carried = λ f p. p }) e
+      reply-ends (NotedBy P a (Reply e) listed) a (λ n. quiet a (Reply e) listed _ refl refl refl refl) e
       (record { next = omega arith; clock = refl; carried = λ f p. verified-carried P e (a .slots) p })
   read-noted a packet (Move m) listed nonces =
       let set = take (m .count) listed in
-      move-ends (NotedBy P a (Move m) listed) a (λ n. record { next = omega arith; clock = refl; carried = λ f p. p }) m set nonces
-      (record { next = omega arith; clock = refl; carried = λ f p. p })
+      move-ends (NotedBy P a (Move m) listed) a (λ n. quiet a (Move m) listed _ refl refl refl refl) m set nonces (quiet a (Move m) listed _ refl refl refl refl)
       (λ q r. record {
         next = omega arith;
         clock = refl;

@@ -92,11 +92,11 @@ first = brings (moveTwo "00002001" "00000000") 0x51
 abbrev pub second : Call
 second = brings (moveOne "00002001" "00000001") 0x61
 
-abbrev third : Call
+abbrev pub third : Call
 third = brings (moveTwo "00002001" "00000002") 0x71
 
 -- a Move of both addresses with a new SPI: address 1 takes nonce 0x61 and address 2 takes 0x62
-abbrev rebinding : Call
+abbrev pub rebinding : Call
 rebinding = brings (moveTwo "00002002" "00000001") 0x61
 
 -- the answer to a check
@@ -134,7 +134,7 @@ abbrev pub begun : Association
 begun = with 0 0 NoneSeen (until 160 1 Active ∷ replicate 7 emptySlot)
 
 -- after the first Move
-abbrev moved : Association
+abbrev pub moved : Association
 moved = with 0 1 (Highest 0) (until 162 1 Active ∷ until 162 2 (waiting 0x51 0) ∷ replicate 6 emptySlot)
 
 -- a slot of each status, and an empty one
@@ -196,7 +196,7 @@ grants : (map (λ (n : ℕ). entriesOf 100 mixed (send 7) (grantedTo n)) (0 ∷ 
     × (map (entriesOf 100 mixed (send 7)) (refusedBy (refusal 15) ∷ done ∷ repeated ∷ []) ≡ replicate 3 [])
 grants = (refl, refl)
 
--- an accepted arrival, a tickAt 5 seconds after the last ageing, one before that and one 17 seconds after it; refused ones put nothing in the ledger, and a message
+-- an accepted arrival, a tick 5 seconds after the last ageing, one before that and one 17 seconds after it; refused ones put nothing in the ledger, and a message
 -- never does
 entries : (map (entriesOf 100 begun (arrival 7)) (done ∷ refusedBy (refusal 13) ∷ []) ≡ (arrived 7 ∷ []) ∷ [] ∷ [])
     × (map (entriesOf 100 begun (tickAt 105)) (done ∷ refusedBy (refusal 12) ∷ []) ≡ (ageing ∷ []) ∷ [] ∷ [])

@@ -28,15 +28,15 @@ abbrev announcing : (count : ℕ) → (buffer : List ℕ) → Call
 announcing count buffer = announce (replicate 8 own) count 0x1002 3 buffer
 
 -- it fits into 56 bytes
-abbrev accepts : Call
+abbrev pub accepts : Call
 accepts = announcing 1 (replicate 57 0xee)
 
 -- it is refused by 21
-abbrev refuses : Call
+abbrev pub refuses : Call
 refuses = announcing 1 (replicate 55 0xee)
 
 -- a Check of Update ID 1 with the opaque bytes aabb
-abbrev check : Call
+abbrev pub check : Call
 check = brings (packet 6 (hex "01810004 00000001" ++ hex "03810002 aabb0000")) 0x91
 
 -- ---- what they answer and return

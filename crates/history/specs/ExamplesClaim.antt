@@ -108,7 +108,7 @@ decays d = (
   d .decayed (arrived 1000 ∷ granted 100 ∷ ageing ∷ []) (ageing ∷ []) (granted 500 ∷ granted 90 ∷ []) (arrived 1500 ∷ []) refl tt tt,
 )
 
--- the same with one tickAt 17 seconds after the last ageing, which "holds three ageings": 600 bytes are granted of the 669 that it leaves of 1,000
+-- the same with one tick 17 seconds after the last ageing, which "holds three ageings": 600 bytes are granted of the 669 that it leaves of 1,000
 abbrev silent : List Call
 silent = arrival 1000 ∷ brings (moveTwo "00002002" "00000000") 0x51 ∷ tickAt 117 ∷ send 600 ∷ []
 

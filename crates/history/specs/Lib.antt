@@ -6,4 +6,5 @@ pub mod Demand
 pub mod ExamplesUnfolded
 pub mod Examples
 pub mod ExamplesAnnounced
+pub mod ExamplesIssued
 pub mod ExamplesClaim

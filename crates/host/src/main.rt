@@ -11,6 +11,7 @@ use libc::STDOUT_FILENO;
 use locator_set::SET_LIMIT;
 use payload::SendOutcome;
 use refusal::Refusal;
+use resend::TICK_ROOM;
 use update::MessageOutcome;
 use writer::put_u32;
 use writer::put_u64;
@@ -59,7 +60,7 @@ fn say_refused(why: Refusal) {
     say_number(b"refused ", refusal::number(why) as u64);
 }
 
-// What a start, an arrival and a tick answer. The host keeps the association for the next call.
+// What a start and an arrival answer. The host keeps the association for the next call.
 fn kept(answer: Answer) -> Association {
     let outcome = answer.outcome;
     match outcome {
@@ -112,6 +113,18 @@ fn announce(a: Association) -> Association {
     answer.association
 }
 
+// The time, every second or so: a buffer for the checks that are sent again, 40 bytes each, which the host sends as packets of their own.
+fn tick(a: Association, time: u64) -> Association {
+    let mut checks = [0u8; TICK_ROOM];
+    let answer = clock::tick(a, time, &mut checks);
+    let outcome = answer.outcome;
+    match outcome {
+        Outcome::Accepted => say_number(b"bytes of checks to send again: ", answer.written as u64),
+        Outcome::Refused(why) => say_refused(why),
+    }
+    answer.association
+}
+
 // A payload of a size: the slot whose address it may go to.
 fn send(a: Association, size: u64) -> Association {
     let answer = payload::send(a, size);
@@ -135,6 +148,6 @@ fn main() {
     a = handle_update(a, &packet, true);
     a = send(a, 1000);
     a = send(a, 1000);
-    a = kept(clock::tick(a, 105));
+    a = tick(a, 105);
     announce(a);
 }

@@ -1,4 +1,4 @@
--- What a message and an announcement answered, by how they ended; a number's bytes in a buffer of their size; the slots one by one. Assumes nothing.
+-- What a message, a tick and an announcement answered, by how they ended; a number's bytes in a buffer of their size; the slots one by one. Assumes nothing.
 use Prim.Native.Nat.{ℕ, suc, _+_, _-_, _≤_, _<_}
 use mathlib.Core.Path.{_≡_, sym, ap, _∙_}
 use mathlib.Core.List.{List, [], _∷_, _++_, append-assoc, append-nil}
@@ -15,16 +15,21 @@ use Rattle.writer.proofs.Writes.{written-first}
 use Rattle.sections.specs.Records.{bytesIn}
 use Rattle.slot.specs.declared.Slot.{Slot}
 use Rattle.association.specs.declared.Outcome.{Outcome}
+use Rattle.clock.specs.declared.TickAnswer.{TickAnswer}
 use Rattle.announcement.specs.declared.Announcement.{Announcement}
 use Rattle.update.specs.declared.MessageOutcome.{MessageOutcome}
 use Rattle.update.specs.declared.MessageAnswer.{MessageAnswer}
 use Rattle.lines.specs.State.{slotText, slotsText}
 use Rattle.lines.specs.Words.{word}
-use Rattle.lines.specs.Answers.{countsText, bytesText, replyText, endingText, messageText, announcedText, announcementText}
+use Rattle.lines.specs.Answers.{bytesText, anyText, endingText, messageText, resentText, tickText, announcedText, announcementText}
 
 pub by-outcome : (answer : MessageAnswer) (buffer : List ℕ) (o : MessageOutcome) → answer .outcome ≡ o → endingText o answer buffer ≡ messageText answer buffer
 unfolding messageText
 by-outcome answer buffer o e = ap (λ (i : MessageOutcome). endingText i answer buffer) (sym e)
+
+pub by-ticked : (answer : TickAnswer) (buffer : List ℕ) (o : Outcome) → answer .outcome ≡ o → resentText o answer buffer ≡ tickText answer buffer
+unfolding tickText
+by-ticked answer buffer o e = ap (λ (i : Outcome). resentText i answer buffer) (sym e)
 
 pub by-announced : (answer : Announcement) (buffer : List ℕ) (o : Outcome) → answer .outcome ≡ o → announcedText o answer buffer ≡ announcementText answer buffer
 unfolding announcementText
@@ -53,15 +58,14 @@ slots-next n slots blank h =
     let size : 0 + length (take n slots) ≡ n = omega (arith, length-take-le n slots few) in
     rw (one, take-suc slots n blank h, slots-more 0 (take n slots) (getD slots n blank), size)
 
--- a reply without bytes, and one with bytes
-pub reply-none : (answer : MessageAnswer) (buffer : List ℕ) → answer .written ≡ 0 → countsText answer ++ word "\n" ≡ replyText answer buffer
-unfolding replyText
-reply-none answer buffer e = let t : eqb (answer .written) 0 ≡ true = rw e in rw t
+-- no bytes, and some
+pub any-none : (written : ℕ) (buffer : List ℕ) → written ≡ 0 → word "\n" ≡ anyText written buffer
+unfolding anyText
+any-none written buffer e = let t : eqb written 0 ≡ true = rw e in rw t
 
-pub reply-some : (answer : MessageAnswer) (buffer : List ℕ) → (answer .written ≡ 0 → ⊥)
-    → countsText answer ++ bytesText (answer .written) buffer ≡ replyText answer buffer
-unfolding replyText
-reply-some answer buffer e = rw (ne-eqb (answer .written) 0 e)
+pub any-some : (written : ℕ) (buffer : List ℕ) → (written ≡ 0 → ⊥) → bytesText written buffer ≡ anyText written buffer
+unfolding anyText
+any-some written buffer e = rw (ne-eqb written 0 e)
 
 -- a section from the first byte on
 pub first-bytes : (n : ℕ) (buffer : List ℕ) → bytesIn buffer (record { start = 0; end = n }) ≡ take n buffer

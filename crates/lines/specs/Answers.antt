@@ -1,5 +1,5 @@
 -- The line of a record: its number, the call, and what the call answered.
-use Prim.Native.Nat.{ℕ}
+use Prim.Native.Nat.{ℕ, _/_}
 use mathlib.Core.Bool.{cond}
 use mathlib.Core.List.{List, [], _∷_, _++_}
 use lib.Dec.{eqb}
@@ -8,6 +8,8 @@ use Rattle.refusal.specs.declared.Refusal.{Refusal}
 use Rattle.refusal.specs.Table.{numberOf}
 use Rattle.association.specs.declared.Outcome.{Outcome}
 use Rattle.association.specs.declared.Outcome.the-variants.{Accepted, Refused}
+use Rattle.reply_form.specs.Replies.{resendSize}
+use Rattle.clock.specs.declared.TickAnswer.{TickAnswer}
 use Rattle.announcement.specs.declared.Announcement.{Announcement}
 use Rattle.payload.specs.declared.SendOutcome.{SendOutcome}
 use Rattle.payload.specs.declared.SendOutcome.the-variants.{Granted, Denied}
@@ -25,7 +27,7 @@ nameText (Start start) = word " start"
 nameText (Message message) = word " message"
 nameText (Arrival size) = word " arrival"
 nameText (Send size) = word " send"
-nameText (Tick time) = word " tick"
+nameText (Tick tick) = word " tick"
 nameText (Announce announcement) = word " announcement"
 nameText Malformed = word " malformed"
 
@@ -37,7 +39,7 @@ callText index call = field "" index ++ nameText call
 unfoldable pub refusalText : Refusal → List (List ℕ)
 refusalText why = field " refused " (numberOf why) ++ word "\n"
 
--- what a start, an arrival or a tick answered
+-- what a start or an arrival answered
 unfoldable pub outcomeText : Outcome → List (List ℕ)
 outcomeText Accepted = word " accepted\n"
 outcomeText (Refused why) = refusalText why
@@ -55,9 +57,13 @@ countsText answer = field " reply " (answer .written) ++ (field " checks " (answ
 unfoldable pub bytesText : (written : ℕ) → (buffer : List ℕ) → List (List ℕ)
 bytesText written buffer = word " " ++ ((hexOf (take written buffer) ∷ []) ++ word "\n")
 
--- the bytes of a reply follow only where there are any
+-- the same, where the bytes follow only where there are any
+unfoldable pub anyText : (written : ℕ) → (buffer : List ℕ) → List (List ℕ)
+anyText written buffer = cond (eqb written 0) (word "\n") (bytesText written buffer)
+
+-- what an answered message tells, and its reply
 unfoldable pub replyText : MessageAnswer → (buffer : List ℕ) → List (List ℕ)
-replyText answer buffer = countsText answer ++ cond (eqb (answer .written) 0) (word "\n") (bytesText (answer .written) buffer)
+replyText answer buffer = countsText answer ++ anyText (answer .written) buffer
 
 -- what a message answered, by what became of it: a Move, a Reply and a Check are accepted
 abbrev pub endingText : MessageOutcome → MessageAnswer → (buffer : List ℕ) → List (List ℕ)
@@ -70,6 +76,15 @@ endingText (Declined why) answer buffer = refusalText why
 -- what a message answered, with the buffer that its reply is in
 unfoldable pub messageText : MessageAnswer → (buffer : List ℕ) → List (List ℕ)
 messageText answer buffer = endingText (answer .outcome) answer buffer
+
+-- what a tick answered, by its outcome: the number of checks that are sent again, and their bytes
+abbrev pub resentText : Outcome → TickAnswer → (buffer : List ℕ) → List (List ℕ)
+resentText Accepted answer buffer = field " accepted resent " (answer .written / resendSize) ++ anyText (answer .written) buffer
+resentText (Refused why) answer buffer = refusalText why
+
+-- what a tick answered, with the buffer that its resends are in
+unfoldable pub tickText : TickAnswer → (buffer : List ℕ) → List (List ℕ)
+tickText answer buffer = resentText (answer .outcome) answer buffer
 
 -- what an announcement answered, by its outcome
 abbrev pub announcedText : Outcome → Announcement → (buffer : List ℕ) → List (List ℕ)

@@ -2,7 +2,8 @@
 use Prim.Native.Nat.{ℕ}
 use mathlib.Core.Path.{_≡_, refl}
 use mathlib.Core.Bool.{true}
-use mathlib.Core.List.{List, [], _∷_, map}
+use mathlib.Core.List.{List, [], _∷_, _++_, map}
+use lib.ListN.{replicate}
 use Rattle.octets.specs.Written.{bytesOf, joined}
 use Rattle.writer.specs.Writes.{writtenAt}
 use Rattle.text.specs.Texts.{hexOf, digitsOf, decimalOf, endOf}
@@ -16,6 +17,7 @@ use Rattle.association.specs.declared.PeerId.the-variants.{NoneSeen, Highest}
 use Rattle.association.specs.declared.Association.{Association}
 use Rattle.association.specs.declared.Outcome.{Outcome}
 use Rattle.association.specs.declared.Outcome.the-variants.{Accepted, Refused}
+use Rattle.clock.specs.declared.TickAnswer.{TickAnswer}
 use Rattle.announcement.specs.declared.Announcement.{Announcement}
 use Rattle.payload.specs.declared.SendOutcome.the-variants.{Granted, Denied}
 use Rattle.update.specs.declared.MessageOutcome.{MessageOutcome}
@@ -24,8 +26,8 @@ use Rattle.update.specs.declared.MessageAnswer.{MessageAnswer}
 use Rattle.trace.specs.declared.Call.the-variants.{Start, Message, Arrival, Send, Tick, Announce, Malformed}
 use Rattle.lines.specs.Laid.{laidOut, laidEnd, Laid}
 use Rattle.lines.specs.Words.{ascii}
-use Rattle.lines.specs.State.{addressText, statusText, locatorText, slotText, slotsText, peerText, preferenceText, numbersText, headText, stateText}
-use Rattle.lines.specs.Answers.{nameText, callText, refusalText, outcomeText, sendText, countsText, bytesText, replyText, messageText, announcementText}
+use Rattle.lines.specs.State.{addressText, checkText, statusText, locatorText, slotText, slotsText, peerText, preferenceText, numbersText, headText, stateText}
+use Rattle.lines.specs.Answers.{nameText, callText, refusalText, outcomeText, sendText, countsText, bytesText, anyText, replyText, messageText, tickText, announcementText}
 
 -- slot n holds 2001:db8::low
 abbrev held : ℕ → Status → Slot
@@ -58,16 +60,16 @@ second = record {
   peer = Highest 7;
   next = 1;
   preferred = NoPreference;
-  slots = held 1 Deprecated ∷ empty ∷ held 2 (Unverified (record { nonce = 0x0102030405060708; id = 0 })) ∷ [];
+  slots = held 1 Deprecated ∷ empty ∷ held 2 (Unverified (record { nonce = 0x0102030405060708; id = 5; issued = 98; resends = 2 })) ∷ [];
 }
 
 -- an empty slot has no line
 states : map (λ (a : Association). joined (stateText a)) (first ∷ second ∷ [])
     ≡ map ascii
     ("  out 8193 in 4097 time 100 aged 100 credit 0 peer - own 0 preferred 0\n  slot 0 20010db8000000000000000000000001 traffic 0 expiry 160 active\n"
-    ∷ "  out 8193 in 4097 time 100 aged 95 credit 400 peer 7 own 1 preferred -\n  slot 0 20010db8000000000000000000000001 traffic 0 expiry 160 deprecated\n  slot 2 20010db8000000000000000000000002 traffic 0 expiry 160 unverified 0102030405060708 0\n"
+    ∷ "  out 8193 in 4097 time 100 aged 95 credit 400 peer 7 own 1 preferred -\n  slot 0 20010db8000000000000000000000001 traffic 0 expiry 160 deprecated\n  slot 2 20010db8000000000000000000000002 traffic 0 expiry 160 unverified 0102030405060708 5 issued 98 resends 2\n"
     ∷ [])
-unfolding bytesOf hexOf digitsOf decimalOf addressText statusText locatorText slotText slotsText peerText preferenceText numbersText headText stateText
+unfolding bytesOf hexOf digitsOf decimalOf addressText checkText statusText locatorText slotText slotsText peerText preferenceText numbersText headText stateText
 states = refl
 
 -- the answers of calls
@@ -76,7 +78,7 @@ answers : map joined
     ∷ callText 1 (Message (record { authentic = true; room = 384 }))
     ∷ callText 8 (Arrival 1)
     ∷ callText 9 (Send 1)
-    ∷ callText 11 (Tick 1)
+    ∷ callText 11 (Tick (record { time = 1; room = 320 }))
     ∷ callText 12 (Announce (record { room = 56; count = 1; inbound = 3; keymat = 0 }))
     ∷ callText 10 Malformed
     ∷ outcomeText Accepted
@@ -102,8 +104,23 @@ messages : map (λ (answer : MessageAnswer). joined (messageText answer (1 ∷ 0
     ∷ " accepted reply 3 checks 0 keymat 7 01c109\n"
     ∷ " refused 22\n"
     ∷ [])
-unfolding hexOf digitsOf decimalOf refusalText countsText bytesText replyText messageText
+unfolding hexOf digitsOf decimalOf refusalText countsText bytesText anyText replyText messageText
 messages = refl
+
+-- what a tick answered that wrote so many bytes
+abbrev ticked : Outcome → (written : ℕ) → TickAnswer
+ticked outcome written = record { outcome = outcome; written = written; association = first }
+
+-- of a buffer of 81 bytes: two checks of 40 bytes, one, none, and a refusal
+ticks : map (λ (answer : TickAnswer). joined (tickText answer (replicate 81 0x0f)))
+    (ticked Accepted 80 ∷ ticked Accepted 40 ∷ ticked Accepted 0 ∷ ticked (Refused (refusal 23)) 0 ∷ [])
+    ≡ (ascii " accepted resent 2 " ++ (joined (replicate 80 (ascii "0f")) ++ ascii "\n"))
+    ∷ (ascii " accepted resent 1 " ++ (joined (replicate 40 (ascii "0f")) ++ ascii "\n"))
+    ∷ ascii " accepted resent 0\n"
+    ∷ ascii " refused 23\n"
+    ∷ []
+unfolding hexOf digitsOf decimalOf refusalText bytesText anyText tickText
+ticks = refl
 
 -- what an announcement answered that wrote so many bytes
 abbrev announced : Outcome → (written : ℕ) → Announcement

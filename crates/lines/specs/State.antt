@@ -2,6 +2,7 @@
 use Prim.Native.Nat.{ℕ, suc}
 use mathlib.Core.List.{List, [], _∷_, _++_}
 use Rattle.address.specs.declared.Address.{Address}
+use Rattle.slot.specs.declared.Check.{Check}
 use Rattle.slot.specs.declared.Status.{Status}
 use Rattle.slot.specs.declared.Status.the-variants.{Unverified, Active, Deprecated}
 use Rattle.slot.specs.declared.Locator.{Locator}
@@ -19,11 +20,15 @@ use Rattle.lines.specs.Words.{word, field, hexNumber}
 unfoldable pub addressText : Address → List (List ℕ)
 addressText a = hexNumber (a .high) ++ hexNumber (a .low)
 
--- a status, the end of a locator's line: UNVERIFIED with the nonce and the Update ID of its check
+-- a check: its nonce, its Update ID, its issue time and its count of resends
+unfoldable pub checkText : Check → List (List ℕ)
+checkText k = hexNumber (k .nonce) ++ (field " " (k .id) ++ (field " issued " (k .issued) ++ field " resends " (k .resends)))
+
+-- a status, the end of a locator's line: UNVERIFIED with its check
 unfoldable pub statusText : Status → List (List ℕ)
 statusText Active = word " active\n"
 statusText Deprecated = word " deprecated\n"
-statusText (Unverified check) = word " unverified " ++ (hexNumber (check .nonce) ++ (field " " (check .id) ++ word "\n"))
+statusText (Unverified check) = word " unverified " ++ (checkText check ++ word "\n")
 
 -- the line of the locator in slot n
 unfoldable pub locatorText : ℕ → Locator → List (List ℕ)

@@ -4,8 +4,10 @@ use crate::words::put_field;
 use crate::words::put_word;
 use announcement::Announcement;
 use association::Outcome;
+use clock::TickAnswer;
 use payload::SendOutcome;
 use refusal::Refusal;
+use resend::RESEND_SIZE;
 use sections::Section;
 use text::put_decimal;
 use trace::Call;
@@ -13,7 +15,7 @@ use update::MessageAnswer;
 use update::MessageOutcome;
 ghost use mathlib.Core.List.{_∷_};
 ghost use Rattle.lines.specs.Laid.{Laid};
-ghost use Rattle.lines.specs.Answers.{nameText, callText, refusalText, outcomeText, sendText, countsText, bytesText, replyText, messageText, announcementText};
+ghost use Rattle.lines.specs.Answers.{nameText, callText, refusalText, outcomeText, sendText, countsText, bytesText, anyText, replyText, messageText, tickText, announcementText};
 
 fn put_name(out: &mut [u8], at: usize, call: Call) -> usize
     ensures { λ r. ⌜ Laid (nameText call) at (now (out .entry)) (now (out .exit)) r ⌝ }
@@ -44,7 +46,7 @@ fn put_refusal(out: &mut [u8], at: usize, why: Refusal) -> usize
     put_word(out, at, b"\n")
 }
 
-// What a start, an arrival or a tick answered.
+// What a start or an arrival answered.
 pub(crate) fn put_outcome(out: &mut [u8], at: usize, outcome: Outcome) -> usize
     ensures { λ r. ⌜ Laid (outcomeText outcome) at (now (out .entry)) (now (out .exit)) r ⌝ }
 {
@@ -89,15 +91,22 @@ fn put_counts(out: &mut [u8], at: usize, answer: MessageAnswer) -> usize
     put_field(out, at, b" keymat ", answer.keymat as u64)
 }
 
-// The same, and the bytes of the reply where there are any.
+// The first so many bytes of the buffer, where there are any.
+fn put_any(out: &mut [u8], at: usize, count: usize, buffer: &[u8]) -> usize
+    ensures { λ r. ⌜ Laid (anyText count (now (buffer .entry))) at (now (out .entry)) (now (out .exit)) r ⌝ }
+{
+    if count == 0 {
+        return put_word(out, at, b"\n");
+    }
+    put_written(out, at, count, buffer)
+}
+
+// The numbers that an answered message tells, and the bytes of its reply.
 fn put_reply(out: &mut [u8], at: usize, answer: MessageAnswer, reply: &[u8]) -> usize
     ensures { λ r. ⌜ Laid (replyText answer (now (reply .entry))) at (now (out .entry)) (now (out .exit)) r ⌝ }
 {
     let at = put_counts(out, at, answer);
-    if answer.written == 0 {
-        return put_word(out, at, b"\n");
-    }
-    put_written(out, at, answer.written, reply)
+    put_any(out, at, answer.written, reply)
 }
 
 // How an answered message ended, what it tells and its reply.
@@ -119,6 +128,21 @@ pub(crate) fn put_message(out: &mut [u8], at: usize, answer: MessageAnswer, repl
         MessageOutcome::Repeated => put_ended(out, at, b" repeated", answer, reply),
         MessageOutcome::Responded => put_ended(out, at, b" accepted", answer, reply),
         MessageOutcome::Declined(why) => put_refusal(out, at, why),
+    }
+}
+
+// What a tick answered, with the buffer that its resends are in.
+pub(crate) fn put_tick(out: &mut [u8], at: usize, answer: TickAnswer, buffer: &[u8]) -> usize
+    ensures { λ r. ⌜ Laid (tickText answer (now (buffer .entry))) at (now (out .entry)) (now (out .exit)) r ⌝ }
+{
+    let outcome = answer.outcome;
+    match outcome {
+        Outcome::Accepted => {
+            let count = answer.written / RESEND_SIZE;
+            let at = put_field(out, at, b" accepted resent ", count as u64);
+            put_any(out, at, answer.written, buffer)
+        }
+        Outcome::Refused(why) => put_refusal(out, at, why),
     }
 }
 

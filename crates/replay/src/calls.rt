@@ -3,9 +3,9 @@ use crate::answers;
 use crate::state;
 use announcement::Announcement;
 use announcement::OwnLocator;
-use association::Answer;
 use association::Association;
 use association::Outcome;
+use clock::TickAnswer;
 use locator_set::SET_LIMIT;
 use reply_form::NONCE_COUNT;
 use sections::Record;
@@ -15,6 +15,7 @@ use trace::Call;
 use trace::MessageCall;
 use trace::ROOM_LIMIT;
 use trace::StartCall;
+use trace::TickCall;
 use update::MessageAnswer;
 ghost use Prim.Native.Nat.{_≤_};
 ghost use lib.ListN.{length};
@@ -140,6 +141,19 @@ fn make_announcement(
     answered(used, answer.association)
 }
 
+// A tick, with the first so many bytes of the buffer.
+fn tick_at(a: Association, time: u64, buffer: &mut [u8], room: usize) -> TickAnswer
+    requires { ⌜ room ≤ length (now buffer) ⌝ }
+{
+    clock::tick(a, time, &mut buffer[0..room])
+}
+
+fn make_tick(call: TickCall, run: Run, buffer: &mut [u8; ROOM_LIMIT], out: &mut [u8]) -> Run {
+    let answer = tick_at(run.association, call.time, buffer, widened(call.room));
+    let used = answers::put_tick(out, run.used, answer, buffer);
+    answered(used, answer.association)
+}
+
 fn make_send(size: u64, run: Run, out: &mut [u8]) -> Run {
     let answer = payload::send(run.association, size);
     let outcome = answer.outcome;
@@ -147,8 +161,9 @@ fn make_send(size: u64, run: Run, out: &mut [u8]) -> Run {
     answered(used, answer.association)
 }
 
-// What an arrival or a tick answered.
-fn keep_answer(answer: Answer, run: Run, out: &mut [u8]) -> Run {
+// An arrival.
+fn make_arrival(size: u64, run: Run, out: &mut [u8]) -> Run {
+    let answer = payload::arrival(run.association, size);
     let outcome = answer.outcome;
     let used = answers::put_outcome(out, run.used, outcome);
     answered(used, answer.association)
@@ -184,9 +199,9 @@ fn make_call(
     match call {
         Call::Start(start) => make_start(start, run, out),
         Call::Message(message) => make_message(s, found, message, run, reply, out),
-        Call::Arrival(size) => keep_answer(payload::arrival(run.association, size), run, out),
+        Call::Arrival(size) => make_arrival(size, run, out),
         Call::Send(size) => make_send(size, run, out),
-        Call::Tick(time) => keep_answer(clock::tick(run.association, time), run, out),
+        Call::Tick(tick) => make_tick(tick, run, reply, out),
         Call::Announce(announce) => make_announcement(s, found, announce, run, reply, out),
         Call::Malformed => at_place(run, put(out, run.used, b"\n")),
     }

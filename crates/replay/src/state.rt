@@ -6,19 +6,29 @@ use address::Address;
 use association::Association;
 use association::PeerId;
 use path::Preference;
+use slot::Check;
 use slot::Holding;
 use slot::Locator;
 use slot::SLOT_COUNT;
 use slot::Slot;
 use slot::Status;
 ghost use Rattle.lines.specs.Laid.{Laid};
-ghost use Rattle.lines.specs.State.{addressText, statusText, locatorText, slotText, slotsText, peerText, preferenceText, numbersText, headText, stateText};
+ghost use Rattle.lines.specs.State.{addressText, checkText, statusText, locatorText, slotText, slotsText, peerText, preferenceText, numbersText, headText, stateText};
 
 fn put_address(out: &mut [u8], at: usize, address: Address) -> usize
     ensures { λ r. ⌜ Laid (addressText address) at (now (out .entry)) (now (out .exit)) r ⌝ }
 {
     let at = put_hex_number(out, at, address.high);
     put_hex_number(out, at, address.low)
+}
+
+fn put_check(out: &mut [u8], at: usize, check: Check) -> usize
+    ensures { λ r. ⌜ Laid (checkText check) at (now (out .entry)) (now (out .exit)) r ⌝ }
+{
+    let at = put_hex_number(out, at, check.nonce);
+    let at = put_field(out, at, b" ", check.id as u64);
+    let at = put_field(out, at, b" issued ", check.issued);
+    put_field(out, at, b" resends ", check.resends as u64)
 }
 
 fn put_status(out: &mut [u8], at: usize, status: Status) -> usize
@@ -29,8 +39,7 @@ fn put_status(out: &mut [u8], at: usize, status: Status) -> usize
         Status::Deprecated => put_word(out, at, b" deprecated\n"),
         Status::Unverified(check) => {
             let at = put_word(out, at, b" unverified ");
-            let at = put_hex_number(out, at, check.nonce);
-            let at = put_field(out, at, b" ", check.id as u64);
+            let at = put_check(out, at, check);
             put_word(out, at, b"\n")
         }
     }

@@ -131,11 +131,12 @@ module _ (inbound time : ℕ) where
       (at ≡ length (resentBytes inbound time xs)) × (b1 ≡ overwritten (resentBytes inbound time xs) b)
   sent-all {n} {xs} {at} {b} {b1} t h room =
       let all : t .done ≡ resentBytes inbound time xs =
-          sym (append-nil (t .done)) ∙ ap (λ (l : List ℕ). t .done ++ l) (sym (rw (drop-of-length-le xs {i = n} h, resent-nil))) ∙ t .whole in
+      sym (append-nil (t .done)) ∙ ap (λ (l : List ℕ). t .done ++ l) (sym (rw (drop-of-length-le xs {i = n} h, resent-nil))) ∙ t .whole in
       let size = t .size in
-      let few = t .few in
-      (t .size ∙ ap length all,
-       t .buffer ∙ written-first (t .done) b (omega arith) ∙ ap (λ (l : List ℕ). overwritten l b) all)
+      let few = t .few in (
+        t .size ∙ ap length all,
+        t .buffer ∙ written-first (t .done) b (omega arith) ∙ ap (λ (l : List ℕ). overwritten l b) all,
+      )
 
 -- ---- the slots after them
 -- a slot for which nothing is written is as it was

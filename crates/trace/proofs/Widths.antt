@@ -1,4 +1,4 @@
--- What the tests of a start, of a message and of an announcement say of their numbers; the sizes of an announcement by a quotient. Assumes nothing.
+-- What the tests of a start, of a message, of a tick and of an announcement say of their numbers; the sizes of an announcement by a quotient. Assumes nothing.
 use mathlib.Core.Path.{_≡_, refl}
 use mathlib.Core.Bool.{Bool, true, false, _&&_}
 use mathlib.Core.List.{List}
@@ -12,7 +12,7 @@ use Rattle.sections.specs.declared.Record.{Record}
 use Rattle.sections.specs.Records.{sizeOf}
 use Rattle.entries.specs.Numbers.{numberSize, addressSize, numberOf, isNarrow}
 use Rattle.entries.specs.Entries.{entryCount, entryPlace, areEntries}
-use Rattle.trace.specs.Calls.{startNumber, messageNumber, announceNumber, roomLimit, hasSizes, isStart, isMessage, hasListSizes, isAnnouncement}
+use Rattle.trace.specs.Calls.{startNumber, messageNumber, tickNumber, announceNumber, roomLimit, hasSizes, isStart, isMessage, isTick, hasListSizes, isAnnouncement}
 
 module _ (s : List ℕ) (r : Record) (h : isStart s r ≡ true) where
   narrow : ℕ → Bool
@@ -43,6 +43,14 @@ message-room s r h =
     (and-true-right mark room
     (and-true-right named (mark && room)
     (and-true-right (hasSizes r (3 * numberSize) (sizeOf (r .body)) (nonceCount * numberSize)) (named && (mark && room)) h)))
+
+-- nor is a tick's
+pub tick-room : (s : List ℕ) (r : Record) → isTick s r ≡ true → numberOf s (r .numbers) 2 ≤ roomLimit
+unfolding isTick
+tick-room s r h =
+    let room : Bool = leb (numberOf s (r .numbers) 2) roomLimit in
+    let named : Bool = eqb (numberOf s (r .numbers) 0) tickNumber in
+    leb-true _ _ (and-true-right named room (and-true-right (hasSizes r (3 * numberSize) 0 0) (named && room) h))
 
 -- ---- an announcement
 -- what they say of its numbers

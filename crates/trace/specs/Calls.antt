@@ -1,5 +1,5 @@
 -- The calls of a trace. A record's first section has numbers: which call it is, and then the call's arguments in the order in which document 01 names
--- them; a message has the host's mark and the length of its reply buffer, an announcement the length of its buffer and then its list. The second section
+-- them; a message has the host's mark and the length of its reply buffer, a tick the length of its buffer, an announcement the length of its buffer and then its list. The second section
 -- is a message's packet, a start's address or the addresses of an announcement's list, the third a message's nonces.
 use Prim.Native.Nat.{ℕ, _+_, _*_}
 use mathlib.Core.Bool.{Bool, cond, _&&_}
@@ -14,6 +14,7 @@ use Rattle.sections.specs.declared.Record.{Record}
 use Rattle.sections.specs.Records.{sizeOf}
 use Rattle.trace.specs.declared.StartCall.{StartCall}
 use Rattle.trace.specs.declared.MessageCall.{MessageCall}
+use Rattle.trace.specs.declared.TickCall.{TickCall}
 use Rattle.trace.specs.declared.AnnounceCall.{AnnounceCall}
 use Rattle.trace.specs.declared.Call.{Call}
 use Rattle.trace.specs.declared.Call.the-variants.{Start, Message, Arrival, Send, Tick, Announce, Malformed}
@@ -96,20 +97,30 @@ announcementOf s r = record {
   keymat = numberOf s (r .numbers) (entryPlace (entryCount r) + 1);
 }
 
+-- ---- a tick
+-- a tick: which call, the time, and the length of the buffer
+unfoldable pub isTick : List ℕ → Record → Bool
+isTick s r = hasSizes r (3 * numberSize) 0 0 && (eqb (numberOf s (r .numbers) 0) tickNumber && leb (numberOf s (r .numbers) 2) roomLimit)
+
+-- what a tick is given
+abbrev pub tickOf : List ℕ → Record → TickCall
+tickOf s r = record { time = numberOf s (r .numbers) 1; room = numberOf s (r .numbers) 2 }
+
 -- ---- any call
--- a call with one argument, a size or a time, and no bytes
+-- a call with one argument, a size, and no bytes
 unfoldable pub plainOf : (which argument : ℕ) → Call
 plainOf which argument =
     cond (eqb which arrivalNumber) (Arrival argument)
-    (cond (eqb which sendNumber) (Send argument) (cond (eqb which tickNumber) (Tick argument) Malformed))
+    (cond (eqb which sendNumber) (Send argument) Malformed)
 
 -- the call that a record stands for, or none: its sections do not fit any
 unfoldable pub callOf : List ℕ → Record → Call
 callOf s r =
     cond (isStart s r) (Start (startOf s r))
     (cond (isMessage s r) (Message (messageOf s r))
+    (cond (isTick s r) (Tick (tickOf s r))
     (cond (isAnnouncement s r) (Announce (announcementOf s r))
-    (cond (hasSizes r (2 * numberSize) 0 0) (plainOf (numberOf s (r .numbers) 0) (numberOf s (r .numbers) 1)) Malformed)))
+    (cond (hasSizes r (2 * numberSize) 0 0) (plainOf (numberOf s (r .numbers) 0) (numberOf s (r .numbers) 1)) Malformed))))
 
 -- the nonces of a message
 abbrev pub noncesOf : List ℕ → Section → List ℕ

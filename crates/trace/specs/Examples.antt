@@ -12,7 +12,7 @@ use Rattle.entries.specs.Entries.{isEntry, areEntries}
 use Rattle.entries.specs.ExamplesWritten.{numbers, written, place, entry, plain, announcing, places, nine}
 use Rattle.trace.specs.declared.Call.{Call}
 use Rattle.trace.specs.declared.Call.the-variants.{Start, Message, Arrival, Send, Tick, Announce, Malformed}
-use Rattle.trace.specs.Calls.{startNumber, messageNumber, arrivalNumber, sendNumber, tickNumber, announceNumber, isStart, roomLimit, isMessage, isAnnouncement, plainOf, callOf, noncesOf}
+use Rattle.trace.specs.Calls.{startNumber, messageNumber, arrivalNumber, sendNumber, tickNumber, announceNumber, isStart, roomLimit, isMessage, isTick, isAnnouncement, plainOf, callOf, noncesOf}
 
 -- the call that a record stands for
 abbrev read : List ℕ → Call
@@ -40,6 +40,7 @@ in-hex : map read
     ++ (hex "0040 0000000000000001 0000000000000002 0000000000000003 0000000000000004"
     ++ hex "0000000000000005 0000000000000006 0000000000000007 0000000000000008")))
     ∷ hex "0010 0000000000000002 00000000000005dc 0000 0000"
+    ∷ hex "0018 0000000000000004 0000000000000069 0000000000000140 0000 0000"
     ∷ (hex "0040 0000000000000005 0000000000000038 0000000000000001 0000000000000002 000000000000003c 0000000000000001"
     ++ hex "0000000000001002 0000000000000007 0010 20010db8 00000000 00000000 00000001 0000")
     ∷ [])
@@ -52,9 +53,10 @@ in-hex : map read
     })
     ∷ Message (record { authentic = true; room = 384 })
     ∷ Arrival 1500
+    ∷ Tick (record { time = 105; room = 320 })
     ∷ Announce (record { room = 56; count = 1; inbound = 0x1002; keymat = 7 })
     ∷ []
-unfolding isStart isMessage isEntry areEntries isAnnouncement plainOf callOf
+unfolding isStart isMessage isTick isEntry areEntries isAnnouncement plainOf callOf
 in-hex = refl
 
 -- each call, with the ends of its widths
@@ -64,7 +66,8 @@ calls : map read
     ∷ written (1 ∷ 0 ∷ 0 ∷ []) (9 ∷ []) nonces
     ∷ written (2 ∷ 1000 ∷ []) [] []
     ∷ written (3 ∷ last64 ∷ []) [] []
-    ∷ written (4 ∷ 105 ∷ []) [] []
+    ∷ written (4 ∷ last64 ∷ 65535 ∷ []) [] []
+    ∷ written (4 ∷ 105 ∷ 0 ∷ []) [] []
     ∷ [])
     ≡ Start (record {
       time = last64;
@@ -77,19 +80,25 @@ calls : map read
     ∷ Message (record { authentic = false; room = 0 })
     ∷ Arrival 1000
     ∷ Send last64
-    ∷ Tick 105
+    ∷ Tick (record { time = last64; room = 65535 })
+    ∷ Tick (record { time = 105; room = 0 })
     ∷ []
-unfolding bytesOf sectionBytes recordBytes numbers isStart isMessage isEntry areEntries isAnnouncement plainOf callOf
+unfolding bytesOf sectionBytes recordBytes numbers isStart isMessage isTick isEntry areEntries isAnnouncement plainOf callOf
 calls = refl
 
--- an unknown call, above and among those of its form; no number; a wrong count of numbers; a number over 32 bits, for each of three; an address of
+-- an unknown call, above and among those of its form; no number; a wrong count of numbers, and of a tick each of the ways; a number over 32 bits, for each of three; an address of
 -- 15 and of 17 bytes; a mark over 1; a buffer over 65,535; nonces of 56, 63 and 72 bytes; bytes in a section that the call does not use; the form
 -- of another call
 malformed : map read
     (written (6 ∷ 1 ∷ []) [] []
     ∷ written [] [] []
     ∷ written (2 ∷ []) [] []
-    ∷ written (4 ∷ 1 ∷ 1 ∷ []) [] []
+    ∷ written (4 ∷ 1 ∷ []) [] []
+    ∷ written (4 ∷ 1 ∷ 320 ∷ 1 ∷ []) [] []
+    ∷ written (4 ∷ 1 ∷ 65536 ∷ []) [] []
+    ∷ written (4 ∷ 1 ∷ 320 ∷ []) (1 ∷ []) []
+    ∷ written (4 ∷ 1 ∷ 320 ∷ []) [] (1 ∷ [])
+    ∷ written (3 ∷ 1 ∷ 320 ∷ []) [] []
     ∷ written (0 ∷ 1 ∷ suc last32 ∷ 1 ∷ 1 ∷ []) place []
     ∷ written (0 ∷ 1 ∷ 1 ∷ suc last32 ∷ 1 ∷ []) place []
     ∷ written (0 ∷ 1 ∷ 1 ∷ 1 ∷ suc last32 ∷ []) place []
@@ -111,8 +120,8 @@ malformed : map read
     ∷ written (0 ∷ 1 ∷ 1 ∷ 1 ∷ []) place []
     ∷ written (0 ∷ 1 ∷ 1 ∷ 1 ∷ 1 ∷ 1 ∷ []) place []
     ∷ [])
-    ≡ replicate 24 Malformed
-unfolding bytesOf sectionBytes recordBytes numbers isStart isMessage isEntry areEntries isAnnouncement plainOf callOf
+    ≡ replicate 29 Malformed
+unfolding bytesOf sectionBytes recordBytes numbers isStart isMessage isTick isEntry areEntries isAnnouncement plainOf callOf
 malformed = refl
 
 -- the numbers of the calls, and the longest buffer
@@ -142,7 +151,7 @@ announcements : map read
     ∷ Announce (record { room = 65535; count = 1; inbound = last32; keymat = 65535 })
     ∷ Announce (record { room = 0; count = 1; inbound = 0; keymat = 0 })
     ∷ []
-unfolding bytesOf sectionBytes recordBytes numbers plain places isStart isMessage isEntry areEntries isAnnouncement plainOf callOf
+unfolding bytesOf sectionBytes recordBytes numbers plain places isStart isMessage isTick isEntry areEntries isAnnouncement plainOf callOf
 announcements = refl
 
 -- a locator type and a traffic type over 255; a lifetime over 32 bits; P over 1, of the first entry, the second and the ninth; a buffer over 65,535; an
@@ -169,5 +178,5 @@ no-announcements : map read
     ∷ written (6 ∷ 256 ∷ (entry 0 1 60 0 ++ (0x1002 ∷ 7 ∷ []))) place []
     ∷ [])
     ≡ replicate 18 Malformed
-unfolding bytesOf sectionBytes recordBytes numbers plain places isStart isMessage isEntry areEntries isAnnouncement plainOf callOf
+unfolding bytesOf sectionBytes recordBytes numbers plain places isStart isMessage isTick isEntry areEntries isAnnouncement plainOf callOf
 no-announcements = refl

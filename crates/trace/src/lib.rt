@@ -11,7 +11,7 @@ use sections::Record;
 use sections::Section;
 ghost use mathlib.Core.Path.{_≡_};
 ghost use mathlib.Core.Bool.{true};
-ghost use Rattle.trace.specs.Calls.{hasSizes, isStart, startOf, isMessage, messageOf, hasListSizes, isAnnouncement, announcementOf, plainOf, callOf, noncesOf};
+ghost use Rattle.trace.specs.Calls.{hasSizes, isStart, startOf, isMessage, messageOf, isTick, tickOf, hasListSizes, isAnnouncement, announcementOf, plainOf, callOf, noncesOf};
 
 // The first number of a record says which call it is.
 const START: u64 = 0;
@@ -50,6 +50,12 @@ pub struct MessageCall {
     pub room: u16,
 }
 
+// What a tick is given: its time, and the length of its buffer.
+pub struct TickCall {
+    pub time: u64,
+    pub room: u16,
+}
+
 // What an announcement is given besides its list: the length of its buffer, how many entries the list has, the new inbound SPI and the KEYMAT Index.
 pub struct AnnounceCall {
     pub room: u16,
@@ -64,7 +70,7 @@ pub enum Call {
     Message(MessageCall),
     Arrival(u64),
     Send(u64),
-    Tick(u64),
+    Tick(TickCall),
     Announce(AnnounceCall),
     Malformed,
 }
@@ -150,6 +156,30 @@ fn message_of(s: &[u8], found: Record) -> MessageCall
     }
 }
 
+fn is_tick(s: &[u8], found: Record) -> bool
+    ensures { λ r. ⌜ r ≡ isTick (now (s .entry)) found ⌝ }
+{
+    let numbers = found.numbers;
+    boolean::both(
+        has_sizes(found, 3 * NUMBER_SIZE, 0, 0),
+        boolean::both(
+            number(s, numbers, 0) == TICK,
+            number(s, numbers, 2) <= ROOM_LIMIT as u64,
+        ),
+    )
+}
+
+fn tick_of(s: &[u8], found: Record) -> TickCall
+    requires { ⌜ isTick (now s) found ≡ true ⌝ }
+    ensures { λ r. ⌜ r ≡ tickOf (now (s .entry)) found ⌝ }
+{
+    let numbers = found.numbers;
+    TickCall {
+        time: number(s, numbers, 1),
+        room: number(s, numbers, 2) as u16,
+    }
+}
+
 // The sections have the sizes of an announcement: the first by a quotient, since a product might not fit.
 fn has_list_sizes(found: Record) -> bool
     ensures { λ r. ⌜ r ≡ hasListSizes found ⌝ }
@@ -210,7 +240,6 @@ fn plain_of(which: u64, argument: u64) -> Call
     match which {
         ARRIVAL => Call::Arrival(argument),
         SEND => Call::Send(argument),
-        TICK => Call::Tick(argument),
         _ => Call::Malformed,
     }
 }
@@ -225,6 +254,9 @@ pub fn call_in(s: &[u8], found: Record) -> Call
     }
     if is_message(s, found) {
         return Call::Message(message_of(s, found));
+    }
+    if is_tick(s, found) {
+        return Call::Tick(tick_of(s, found));
     }
     if is_announcement(s, found) {
         return Call::Announce(announcement_of(s, found));

@@ -25,9 +25,10 @@ returns c =
     let expire = resend .before .before in
     let start = expire .before .before .before in
     let a = start .args in
-    let wide = start .pre in
-    (advanced (a .a) (a .time) (a .buffer .now) wide _ (expire .expire-all .ensures) _ (resend .resend-all .ensures .0) _ _ (c .before .age-clock .ensures) (c .age-credit .ensures),
-     sent-whole (a .a) (a .time) (a .buffer .now) wide _ (expire .expire-all .ensures) _ (resend .resend-all .ensures .0) _ (resend .resend-all .ensures .1))
+    let wide = start .pre in (
+      advanced (a .a) (a .time) (a .buffer .now) wide _ (expire .expire-all .ensures) _ (resend .resend-all .ensures .0) _ _ (c .before .age-clock .ensures) (c .age-credit .ensures),
+      sent-whole (a .a) (a .time) (a .buffer .now) wide _ (expire .expire-all .ensures) _ (resend .resend-all .ensures .0) _ (resend .resend-all .ensures .1),
+    )
 
 pub advance-spec : {M : Type 1} → statement M
 advance-spec =

@@ -27,14 +27,8 @@ send-requires c κs = tt
 of-send-requires : tie.Need-of-send-requires
 of-send-requires c κs = tt
 
-wrapping-add-u64-requires : tie.Need-wrapping-add-u64-requires
-wrapping-add-u64-requires c κs = tt
-
 tick-requires : tie.Need-tick-requires
 tick-requires c κs = tt
-
-of-outcome-requires-2 : tie.Need-of-outcome-requires-2
-of-outcome-requires-2 c κs = tt
 
 receive-requires : tie.Need-receive-requires
 receive-requires c κs = tt
@@ -58,21 +52,24 @@ returns-2 c =
     let call = c .before .before in
     makes-send (lent (call .before .before .before .before .before)) (call .before .match .keys2) (call .send .ensures) (c .before .of-send .ensures)
 
+same-length : tie.Need-same-length
+same-length c = search needs
+
 returns-3 : tie.Need-returns-3
 returns-3 c =
     let call = c .before .before in
-    makes-tick (lent (call .before .before .before .before .before .before)) (call .before .before .match .keys3) (call .before .wrapping-add-u64 .ensures) (call .tick .ensures) (c .before .of-outcome2 .ensures)
+    makes-tick (lent (call .before .before .before .before .before .before)) (call .before .before .match .keys3) (call .tick .ensures .0) (call .tick .ensures .1)
 
-same-length : tie.Need-same-length
-same-length c = search needs
+same-length-2 : tie.Need-same-length-2
+same-length-2 c = search needs
 
 returns-4 : tie.Need-returns-4
 returns-4 c =
     let call = c .before .before in
     makes-first (lent (call .before .before .before .before .before .before)) (call .before .before .match .keys4) (call .receive .ensures .0) (call .receive .ensures .1)
 
-same-length-2 : tie.Need-same-length-2
-same-length-2 c = search needs
+same-length-3 : tie.Need-same-length-3
+same-length-3 c = search needs
 
 returns-5 : tie.Need-returns-5
 returns-5 c =
@@ -97,19 +94,18 @@ make-spec =
     of-outcome-requires
     send-requires
     of-send-requires
-    wrapping-add-u64-requires
     tick-requires
-    of-outcome-requires-2
     receive-requires
     receive-requires-2
     is-bad-association-requires
     bit-requires
     returns
     returns-2
-    returns-3
     same-length
-    returns-4
+    returns-3
     same-length-2
+    returns-4
+    same-length-3
     returns-5
     returns-6
     returns-7)

@@ -32,17 +32,8 @@ slice-aggregate-put-word-3 c = search needs
 put-word-requires-3 : tie.Need-put-word-requires-3
 put-word-requires-3 c κs = search needs
 
-put-hex-number-requires : tie.Need-put-hex-number-requires
-put-hex-number-requires c κs = search needs
-
-slice-aggregate-put-field : tie.Need-slice-aggregate-put-field
-slice-aggregate-put-field c = search needs
-
-cast-put-field : tie.Need-cast-put-field
-cast-put-field c = search needs
-
-put-field-requires : tie.Need-put-field-requires
-put-field-requires c κs = search needs
+put-check-requires : tie.Need-put-check-requires
+put-check-requires c κs = search needs
 
 slice-aggregate-put-word-4 : tie.Need-slice-aggregate-put-word-4
 slice-aggregate-put-word-4 c = search needs
@@ -70,10 +61,8 @@ same-length-3 c = search needs
 returns-3 : tie.Need-returns-3
 unfolding statusText
 returns-3 c =
-    rw (c .before .before .before .before .before .before .before .before .before .before .before .before .before .before .before .before .before .before .before .before .before .status .given .1)
-    (after (c .before .before .before .before .before .before .before .before .before .before .before .before .before .before .before .before .before .put-word3 .ensures)
-    (after (c .before .before .before .before .before .before .before .before .before .before .before .before .before .put-hex-number .ensures)
-    (after (c .before .before .before .before .before .before .before .put-field .ensures) (c .before .before .put-word4 .ensures))))
+    rw (c .before .before .before .before .before .before .before .before .before .before .before .before .before .before .before .status .given .1)
+    (after (c .before .before .before .before .before .before .before .before .before .before .before .put-word3 .ensures) (after (c .before .before .before .before .before .before .before .put-check .ensures) (c .before .before .put-word4 .ensures)))
 
 pub put-status-spec : {M : Type 1} → statement M
 put-status-spec =
@@ -88,10 +77,7 @@ put-status-spec =
     enum-known-status
     slice-aggregate-put-word-3
     put-word-requires-3
-    put-hex-number-requires
-    slice-aggregate-put-field
-    cast-put-field
-    put-field-requires
+    put-check-requires
     slice-aggregate-put-word-4
     put-word-requires-4
     same-length
