@@ -1,3 +1,4 @@
 pub mod Ends
 pub mod Kept
+pub mod Buffers
 pub mod Silence
