@@ -28,6 +28,12 @@ const ROUNDS: usize = 300;
 const MOST_SENDS: usize = 2000;
 /// So many arrivals of 1,000 bytes reach the greatest credit, 1,048,576.
 const FULL_CREDIT: usize = 1049;
+/// A check is sent again 1, 2, 4 and 8 seconds after it went out, and given up
+/// after 16: ticks a second apart, the first two of which send it, and those
+/// after the last moment that find it out still.
+const RESENDS: usize = 2;
+const LAST_MOMENT: usize = 8;
+const QUIET_TICKS: usize = 7;
 
 /// One call, and what leads up to it.
 pub struct Row {
@@ -36,8 +42,8 @@ pub struct Row {
     /// The calls before it: none leaves one ACTIVE address.
     before: Vec<u8>,
     call: u8,
-    /// How many of it are timed in one string.
-    many: usize,
+    /// How many of it are timed in one string, and may be counted.
+    pub many: usize,
     second: Vec<u8>,
 }
 
@@ -86,6 +92,8 @@ pub fn rows() -> Vec<Row> {
     let eight: &[u8] = &[FIRST];
     let mut credit = vec![FIRST];
     credit.resize(1 + FULL_CREDIT, ARRIVAL);
+    let mut waiting = vec![FIRST];
+    waiting.resize(1 + LAST_MOMENT, TICK);
     let none = Vec::new;
     vec![
         row("active-none", "no call", active, NO_CALL, 4000, none()),
@@ -106,7 +114,15 @@ pub fn rows() -> Vec<Row> {
         row("eight-row-0", "row 0", eight, ROW_0, 2000, none()),
         row("eight-arrival", "arrival", eight, ARRIVAL, 2000, none()),
         row("eight-send", "send", &credit, SEND, MOST_SENDS, none()),
-        row("eight-tick", "tick", eight, TICK, 2000, none()),
+        row(
+            "eight-resend",
+            "tick, eight checks sent again",
+            eight,
+            TICK,
+            RESENDS,
+            none(),
+        ),
+        row("eight-tick", "tick", &waiting, TICK, QUIET_TICKS, none()),
         row("eight-reply", "Reply", eight, SECOND, 400, reply()),
         row("eight-repeated", "Repeated", eight, SECOND, 400, first()),
         row(
@@ -186,11 +202,12 @@ pub fn print() {
     }
 }
 
-/// Makes one call `times` times, for a count of instructions. More sends than
-/// the credit grants would be refused.
+/// Makes one call `times` times, for a count of instructions: no more than are
+/// of the same kind. More sends than the credit grants would be refused, and
+/// more ticks would give the checks up.
 pub fn count(name: &str, times: usize) -> Option<u64> {
     let row = rows().into_iter().find(|row| row.name == name)?;
-    if row.call == SEND && times > MOST_SENDS {
+    if times > row.many {
         return None;
     }
     let calls = row.string(times);

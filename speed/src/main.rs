@@ -100,14 +100,15 @@ fn measure(words: &[&str]) -> ExitCode {
         ["rates"] => rates::print(),
         ["calls"] => calls::print(),
         // For the script that counts instructions: what can be counted, by whom
-        // it is done, how often for each of the TIMES, and its title.
+        // it is done, how often a packet is read for each of the TIMES or how many
+        // of a call may be made, and its title.
         ["kinds"] => {
             for name in kinds::NAMES {
                 let title = kinds::title(name);
                 println!("{name}\tpacket\t{}\t{title}", kinds::VARIANTS);
             }
             for row in calls::rows() {
-                println!("{}\tcall\t1\t{}", row.name, row.cells());
+                println!("{}\tcall\t{}\t{}", row.name, row.many, row.cells());
             }
         }
         ["count", kind, who, times] => {

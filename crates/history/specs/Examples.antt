@@ -68,7 +68,7 @@ reply nonce = packet 6 (echo nonce)
 abbrev shortReply : List ℕ
 shortReply = packet 5 (hex "03c10004 00000051")
 
-abbrev malformed : List ℕ
+abbrev pub malformed : List ℕ
 malformed = packet 7 (echo "00000051")
 
 -- ---- calls

@@ -11,15 +11,15 @@ use Rattle.octets.specs.ExamplesHex.{hex}
 use Rattle.history.specs.Calls.{Call, arrival, send, tick, Answered, refusedBy, done, repeated, returned, lentAfter, Step, stepOf, history, after}
 use Rattle.history.specs.Issued.{checksIn, announcedIn, idsIn, nextId, Takes, Issues, tickedAt, timeOr, lastTick, isOutstanding}
 use Rattle.history.specs.Demand.{next, Demand3}
-use Rattle.history.specs.Examples.{moveTwo, marked, brings, tickAt, first, second, third, rebinding, answering, moved, begun}
+use Rattle.history.specs.Examples.{malformed, brings, tickAt, first, second, third, rebinding, answering, moved, begun}
 use Rattle.history.specs.ExamplesAnnounced.{accepts, refuses, check}
 use Rattle.history.specs.ExamplesUnfolded.{sequences}
 
 -- ---- own Update IDs
 -- the checks that calls issue: the first Move one, for address 2; one with a new SPI two; a Move that keeps the check none, nor do a repeat, a refused Move, a
--- Reply, a Check of the peer and other calls
+-- Reply, a Check of the peer, what refusal 3 refuses and other calls
 issued : (map (λ (r : Answered). checksIn begun first r) (done ∷ repeated ∷ refusedBy (refusal 2) ∷ []) ≡ 1 ∷ 0 ∷ 0 ∷ [])
-    × (map (λ (c : Call). checksIn moved c done) (rebinding ∷ third ∷ second ∷ answering "00000051" ∷ check ∷ []) ≡ 2 ∷ 0 ∷ 0 ∷ 0 ∷ 0 ∷ [])
+    × (map (λ (c : Call). checksIn moved c done) (rebinding ∷ third ∷ second ∷ answering "00000051" ∷ check ∷ brings malformed 1 ∷ []) ≡ 2 ∷ replicate 5 0)
     × (map (λ (c : Call). checksIn begun c done) (arrival 1 ∷ send 1 ∷ tickAt 103 ∷ accepts ∷ []) ≡ replicate 4 0)
 unfolding sequences
 issued = (refl, refl, refl)
@@ -100,19 +100,21 @@ unfolding sequences
 ends = refl
 
 -- ---- the claim
--- of the check of the first Move, issued at 102, at a tick at 118, and after the Move that follows it
-ended : let cs = first ∷ tickAt 103 ∷ tickAt 118 ∷ third ∷ [] in Demand3 begun cs → isOutstanding 0 (after begun cs) ≡ false
+-- of the check of the first Move, issued at 102, after a tick at 118 and any call that follows it
+ended : (c : Call) → Demand3 begun (first ∷ tickAt 103 ∷ tickAt 118 ∷ c ∷ []) → isOutstanding 0 (returned (after begun (first ∷ tickAt 103 ∷ tickAt 118 ∷ [])) c) ≡ false
 unfolding sequences
-ended d =
-    d .given-up [] (next begun (first ∷ []) (tickAt 103) ∷ []) (next begun (first ∷ tickAt 103 ∷ tickAt 118 ∷ []) third ∷ []) (stepOf begun first)
+ended c d =
+    d .given-up [] (next begun (first ∷ []) (tickAt 103) ∷ []) (next begun (first ∷ tickAt 103 ∷ tickAt 118 ∷ []) c ∷ []) (stepOf begun first)
     (next begun (first ∷ tickAt 103 ∷ []) (tickAt 118)) 0 118 refl (omega arith, omega arith) refl (omega arith)
 
--- of a check that is issued after a tick at 103, right after a tick at 119
-ended-later : let cs = tickAt 103 ∷ accepts ∷ first ∷ tickAt 119 ∷ [] in Demand3 begun cs → isOutstanding 1 (after begun cs) ≡ false
+-- of a check that is issued after a tick at 103 and an announcement, after a tick at 119 and any two calls
+ended-later : (b c : Call) → Demand3 begun (tickAt 103 ∷ accepts ∷ first ∷ tickAt 119 ∷ b ∷ c ∷ []) →
+    isOutstanding 1 (returned (returned (after begun (tickAt 103 ∷ accepts ∷ first ∷ tickAt 119 ∷ [])) b) c) ≡ false
 unfolding sequences
-ended-later d =
-    d .given-up (stepOf begun (tickAt 103) ∷ next begun (tickAt 103 ∷ []) accepts ∷ []) [] [] (next begun (tickAt 103 ∷ accepts ∷ []) first)
-    (next begun (tickAt 103 ∷ accepts ∷ first ∷ []) (tickAt 119)) 1 119 refl (omega arith, omega arith) refl (omega arith)
+ended-later b c d =
+    d .given-up (stepOf begun (tickAt 103) ∷ next begun (tickAt 103 ∷ []) accepts ∷ []) []
+    (next begun (tickAt 103 ∷ accepts ∷ first ∷ tickAt 119 ∷ []) b ∷ next begun (tickAt 103 ∷ accepts ∷ first ∷ tickAt 119 ∷ b ∷ []) c ∷ [])
+    (next begun (tickAt 103 ∷ accepts ∷ []) first) (next begun (tickAt 103 ∷ accepts ∷ first ∷ []) (tickAt 119)) 1 119 refl (omega arith, omega arith) refl (omega arith)
 
 -- a resend after an announcement has the inbound SPI that is held now, 0x1002, and the check's own Update ID
 resent-since : lentAfter (after begun (first ∷ accepts ∷ [])) (tickAt 103)

@@ -1,7 +1,7 @@
 // The checks that a tick sends again: their bytes, written into the buffer that the caller lends, and the slots after them. Depends on reply, reply_form,
 // parameter, slots, slot and check_times. The functions take the slots and not the association, so that they serve an association with several sets of slots.
 use parameter::SEQ;
-use reply::ACK_SIZE as SEQ_SIZE;
+use reply::ACK_SIZE;
 use reply::ECHO_REQUEST_SIZE;
 use reply::ESP_INFO_SIZE;
 use slot::Check;
@@ -18,8 +18,8 @@ ghost use Rattle.slot.specs.Checks.{resent, resendSlot};
 ghost use Rattle.slots.specs.Rules.{resendAll};
 ghost use Rattle.resend.specs.Resends.{tickRoom, refusal23, slotBytes, resentBytes, sentSlots, sentBytes};
 
-// Where ECHO_REQUEST_SIGNED stands in a check that is sent again.
-const ECHO_REQUEST_AT: usize = ESP_INFO_SIZE + SEQ_SIZE;
+// Where ECHO_REQUEST_SIGNED stands in a check that is sent again: after ESP_INFO and SEQ, whose size is an ACK's.
+const ECHO_REQUEST_AT: usize = ESP_INFO_SIZE + ACK_SIZE;
 
 // The bytes of a check that is sent again.
 pub const RESEND_SIZE: usize = ECHO_REQUEST_AT + ECHO_REQUEST_SIZE;
