@@ -74,13 +74,7 @@ pub fn is_bad_association(a: Association) -> bool
                 CREDIT_LIMIT < a.credit,
                 boolean::either(
                     ID_LIMIT < a.next,
-                    boolean::either(
-                        is_beyond(preferred),
-                        boolean::either(
-                            slots::any_clash(slots),
-                            slots::any_bad_check(slots, a.time),
-                        ),
-                    ),
+                    boolean::either(is_beyond(preferred), slots::any_bad(slots, a.time)),
                 ),
             ),
         ),

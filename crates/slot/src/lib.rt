@@ -9,12 +9,12 @@ ghost use Rattle.slot.specs.Expiry.{isOver, expireSlot};
 // The slots of an association.
 pub const SLOT_COUNT: usize = 8;
 
-// The check that is out for an address: the nonce that its echo must hold, the Update ID that it was sent with, the time of its issue, and how often it
-// was sent again.
+// The check that is out for an address: the nonce that its echo must hold, the time of its issue, the Update ID that it was sent with, and how often it
+// was sent again. The longer numbers stand first, so that it takes no more room than it must.
 pub struct Check {
     pub nonce: u64,
-    pub id: u32,
     pub issued: u64,
+    pub id: u32,
     pub resends: u8,
 }
 

@@ -10,7 +10,9 @@ use native.Mathlib.Omega.{arith}
 use Rattle.octets.specs.Records.{some}
 use Rattle.slot.specs.Clashes.{clash}
 use Rattle.slot.specs.declared.Slot.{Slot}
-use Rattle.slots.specs.Rules.{clashing}
+use Rattle.slot.specs.Found.{heldAs}
+use Rattle.slot.specs.Checks.{badCheck}
+use Rattle.slots.specs.Rules.{clashing, badChecks}
 
 -- A loop with an early return. What it works out is `over`, a function of an index and the list from there on: `found` of the first index where
 -- the element, with those after it, passes the test, or `none` where there is no such index
@@ -56,13 +58,34 @@ clash-cons : (x : Slot) (xs : List Slot) → clashing (x ∷ xs) ≡ (some (clas
 unfolding clashing
 clash-cons x xs = refl
 
-pub clash-turn : (xs : List Slot) (n i : ℕ) (d : Slot) (whole : Bool) → length xs ≡ n → i < n → whole ≡ clashing (drop i xs) →
-    whole ≡ (some (clash (getD xs i d)) (drop (i + 1) xs) || clashing (drop (i + 1) xs))
-clash-turn xs n i d whole e h p = p ∙ rw (drop-cons xs i d (omega arith), clash-cons, ← add-one i)
+-- and before that whether its check is bad
+bad-cons : (time : ℕ) (x : Slot) (xs : List Slot) → badChecks time (x ∷ xs) ≡ (heldAs (badCheck time) x || badChecks time xs)
+unfolding some
+bad-cons time x xs = refl
 
-pub clash-end : (xs : List Slot) (n i : ℕ) (whole : Bool) → length xs ≡ n → n ≤ i → whole ≡ clashing (drop i xs) → false ≡ whole
-unfolding clashing
-clash-end xs n i whole e h p = rw (p, drop-of-length-le xs {i = i} (omega arith))
+or-true : (a b : Bool) → true ≡ (a || (true || b))
+or-true true b = refl
+or-true false b = refl
+
+or-passed : (a b c : Bool) → ((a || b) || (false || c)) ≡ (a || (b || c))
+or-passed true b c = refl
+or-passed false b c = refl
+
+module _ (time : ℕ) (xs : List Slot) (n i : ℕ) (d : Slot) (whole b : Bool) (e : length xs ≡ n) (p : whole ≡ (clashing (drop i xs) || badChecks time (drop i xs))) where
+  pub bad-hit : i < n → b ≡ heldAs (badCheck time) (getD xs i d) → b ≡ true → true ≡ whole
+  bad-hit h q r =
+      or-true (clashing (getD xs i d ∷ drop (suc i) xs)) (badChecks time (drop (suc i) xs))
+      ∙ sym (p ∙ rw (drop-cons xs i d (omega arith), bad-cons, ← q, r))
+
+  pub good-turn : i < n → b ≡ heldAs (badCheck time) (getD xs i d) → b ≡ false →
+      whole ≡ (some (clash (getD xs i d)) (drop (i + 1) xs) || (clashing (drop (i + 1) xs) || badChecks time (drop (i + 1) xs)))
+  good-turn h q r =
+      p ∙ rw (drop-cons xs i d (omega arith), clash-cons, bad-cons, ← q, r, ← add-one i)
+      (or-passed (some (clash (getD xs i d)) (drop (i + 1) xs)) (clashing (drop (i + 1) xs)) (badChecks time (drop (i + 1) xs)))
+
+pub bad-end : (time : ℕ) (xs : List Slot) (n i : ℕ) (whole : Bool) → length xs ≡ n → n ≤ i → whole ≡ (clashing (drop i xs) || badChecks time (drop i xs)) → false ≡ whole
+unfolding clashing some
+bad-end time xs n i whole e h p = rw (p, drop-of-length-le xs {i = i} (omega arith))
 
 module _ (xs : List Slot) (n j : ℕ) (x d : Slot) (whole rest b : Bool) (e : length xs ≡ n) (p : whole ≡ (some (clash x) (drop j xs) || rest)) where
   -- slot j clashes with x

@@ -3,34 +3,14 @@
 use slot::Holding;
 use slot::SLOT_COUNT;
 use slot::Slot;
+ghost use mathlib.Core.Bool.{_||_};
 ghost use mathlib.Core.Path.{_≡_};
 ghost use Rattle.slots.specs.Rules.{clashing, badChecks, expireAll, isOutstanding};
 ghost use Rattle.slots.specs.Past.{past};
 
-// Two slots clash: one with one after it.
-pub fn any_clash(slots: [Slot; SLOT_COUNT]) -> bool
-    ensures { λ r. ⌜ r ≡ clashing slots ⌝ }
-{
-    let held = slots;
-    let mut i: usize = 0;
-    while i < SLOT_COUNT {
-        let slot = held[i];
-        let mut j = i + 1;
-        while j < SLOT_COUNT {
-            let other = held[j];
-            if slot::clashes(slot, other) {
-                return true;
-            }
-            j += 1;
-        }
-        i += 1;
-    }
-    false
-}
-
-// A slot has a check that no association of this time may hold.
-pub fn any_bad_check(slots: [Slot; SLOT_COUNT], time: u64) -> bool
-    ensures { λ r. ⌜ r ≡ badChecks time slots ⌝ }
+// What refusal 0 refuses of the slots, in one pass over them: a slot has a check that no association of this time may hold, or clashes with one after it.
+pub fn any_bad(slots: [Slot; SLOT_COUNT], time: u64) -> bool
+    ensures { λ r. ⌜ r ≡ (clashing slots || badChecks time slots) ⌝ }
 {
     let held = slots;
     let mut i: usize = 0;
@@ -38,6 +18,14 @@ pub fn any_bad_check(slots: [Slot; SLOT_COUNT], time: u64) -> bool
         let slot = held[i];
         if slot::has_bad_check(slot, time) {
             return true;
+        }
+        let mut j = i + 1;
+        while j < SLOT_COUNT {
+            let other = held[j];
+            if slot::clashes(slot, other) {
+                return true;
+            }
+            j += 1;
         }
         i += 1;
     }
