@@ -134,8 +134,8 @@ refused-did a c r = record {
 }
 
 -- ---- an arrival
--- a call that is no message echoes nothing
-no-echo : {A : Type 0} (n : ℕ) → _≡_ {A = Option ℕ} none (some n) → A
+-- a call that is no message echoes nothing, and one that is no tick tells no time
+pub no-echo : {A : Type 0} (n : ℕ) → _≡_ {A = Option ℕ} none (some n) → A
 no-echo n f = apart (let z : true ≡ false = cc in z)
 
 -- what a call did, by its answer

@@ -44,6 +44,7 @@ use Rattle.announcement.proofs.Ends.{announcement-ends}
 use Rattle.history.specs.Calls.{Call, message, arrival, send, tick, announce, Answered, refusedBy, done, grantedTo, ofOutcome, ofSend, ofMessage, answers, returned, Step, stepOf, history, after}
 use Rattle.history.specs.Issued.{checksBy, checksIn, announcedIn, idsIn, nextId, Takes, Issues, tickedAt, timeOr, lastTick, isCheck, isOutstanding}
 use Rattle.history.proofs.Traces.{isHeeded}
+use Rattle.history.proofs.Calls.{no-echo}
 
 -- ---- what one call does
 -- a property of checks that does not look at the count of resends
@@ -61,14 +62,6 @@ record Noted (P : Check → Type 0) (a : Association) (c : Call) (r : Answered) 
   -- after an accepted tick no check is left that is given up by then
   ended : (time : ℕ) → tickedAt c r ≡ some time → All (Carries P) (a .slots) → All (Carries (λ (k : Check). P k × Young time k)) (left .slots)
 
--- no tick
-no-tick : {A : Type 0} (time : ℕ) → _≡_ {A = Option ℕ} none (some time) → A
-no-tick time f = apart (let z : true ≡ false = cc in z)
-
-valueOr : ℕ → Option ℕ → ℕ
-valueOr d none = d
-valueOr d (some n) = n
-
 -- a message, where what was read of it is known
 record NotedBy (P : Check → Type 0) (a : Association) (g : Message) (listed : List ListedLocator) (h : Handled) : Type 0 where
   next : a .next + (cond (isHeeded (ofMessage (h .outcome))) (checksBy a g listed) 0 + 0) ≡ h .left .next
@@ -83,7 +76,7 @@ module _ (P : Check → Type 0) (u : Uncounted P) where
     next = omega arith;
     clock = rw no-time (sym t);
     carried = λ f p. rw s p;
-    ended = λ time e. no-tick time (sym no-time ∙ e);
+    ended = λ time e. no-echo time (sym no-time ∙ e);
   }
 
   refused-noted : (a : Association) (c : Call) (r : Refusal) → Noted P a c (refusedBy r) a
@@ -122,7 +115,6 @@ module _ (P : Check → Type 0) (u : Uncounted P) where
       (λ e. refused-noted a (send size) (refusal 13)) (λ e. to-noted a size (pathOf (a .preferred) (a .slots))))
 
   tick-noted : (a : Association) (time : ℕ) (buffer : List ℕ) → Noted P a (tick time buffer) (answers a (tick time buffer)) (returned a (tick time buffer))
-  unfolding valueOr
   tick-noted a time buffer =
       tick-ends (λ (h : ticks.Ticked). Noted P a (tick time buffer) (ofOutcome (h .outcome)) (h .left)) a (λ n. refused-noted a (tick time buffer) (refusal n)) time (length buffer)
       (λ q. record {
@@ -134,7 +126,7 @@ module _ (P : Check → Type 0) (u : Uncounted P) where
             (resendAll time (expireAll time (a .slots))) (ticked-carries P time (u time) (a .slots) p);
         ended =
             λ t e p.
-            let same : t ≡ time = sym (ap (valueOr 0) e) in
+            let same : t ≡ time = sym (ap (timeOr 0) e) in
             rw same (ticked-carries P time (u time) (a .slots) p);
       })
 
@@ -144,7 +136,7 @@ module _ (P : Check → Type 0) (u : Uncounted P) where
   announce-noted a list count inbound keymat buffer =
       announcement-ends (λ h. Noted P a (announce list count inbound keymat buffer) (ofOutcome (h .outcome)) (h .left)) a
       (λ n. refused-noted a (announce list count inbound keymat buffer) (refusal n)) list count inbound keymat (length buffer)
-      (λ p. record { next = omega arith; clock = refl; carried = λ f p. p; ended = λ t e. no-tick t e })
+      (λ p. record { next = omega arith; clock = refl; carried = λ f p. p; ended = λ t e. no-echo t e })
 
   -- a message that leaves all but the highest Update ID of the peer, and issues nothing
   quiet : (a : Association) (g : Message) (listed : List ListedLocator) (h : Handled) → cond (isHeeded (ofMessage (h .outcome))) (checksBy a g listed) 0 ≡ 0 → h .left .next ≡ a .next →
@@ -178,7 +170,7 @@ module _ (P : Check → Type 0) (u : Uncounted P) where
       (λ n. refused-noted a (message packet authentic nonces eight buffer) (refusal n)) packet authentic nonces (length buffer)
       (λ p q r.
       let s = read-noted a packet (readingOf packet .message) (readingOf packet .listed) nonces in
-      record { next = s .next; clock = s .clock; carried = s .carried; ended = λ t e. no-tick t e })
+      record { next = s .next; clock = s .clock; carried = s .carried; ended = λ t e. no-echo t e })
   noted a (arrival size) = arrival-noted a size
   noted a (send size) = send-noted a size
   noted a (tick time buffer) = tick-noted a time buffer

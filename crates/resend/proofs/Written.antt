@@ -43,7 +43,7 @@ abbrev pub Owed : (inbound time at : ℕ) → Slot → (b : List ℕ) → (size 
 Owed inbound time at s b size after = (size ≡ length (slotBytes inbound time s)) × (after ≡ writtenAt at (slotBytes inbound time s) b)
 
 module _ (inbound time at : ℕ) (s : Slot) (b : List ℕ) where
-  pub nothing-owed : slotBytes inbound time s ≡ [] → Owed inbound time at s b 0 b
+  nothing-owed : slotBytes inbound time s ≡ [] → Owed inbound time at s b 0 b
   nothing-owed e = rw e (refl, written-none at b)
 
   pub empty-owed : s .holding ≡ Empty → Owed inbound time at s b 0 b

@@ -21,17 +21,11 @@ badCheck time (Unverified k) = isBadCheck (k .issued) (k .resends) time
 badCheck time Active = false
 badCheck time Deprecated = false
 
--- the check is sent again: its "count is below the number of moments reached"
-abbrev pub due : (time : ℕ) → Status → Bool
-due time (Unverified k) = isDue (k .issued) (k .resends) time
-due time Active = false
-due time Deprecated = false
-
 -- "the count becomes that number"; its nonce, "its first Update ID" and its issue time stay
 abbrev pub resent : (time : ℕ) → Check → Check
 resent time k = record { nonce = k .nonce; id = k .id; issued = k .issued; resends = reached (k .issued) time }
 
--- a status after the resends of a tick
+-- a status after the resends of a tick: of "each check whose count is below the number of moments reached"
 abbrev pub resendStatus : (time : ℕ) → Status → Status
 resendStatus time (Unverified k) = cond (isDue (k .issued) (k .resends) time) (Unverified (resent time k)) (Unverified k)
 resendStatus time Active = Active

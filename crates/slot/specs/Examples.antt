@@ -13,7 +13,7 @@ use Rattle.slot.specs.declared.Holding.the-variants.{Empty, Held}
 use Rattle.slot.specs.declared.Slot.{Slot}
 use Rattle.slot.specs.Found.{slotCount, emptySlot, slotOf, withStatus, onLocator, holds, orElse, statusIn, slotAt, statusAt, isActive, isUnverified, isDeprecated, isNonce, foundAs, heldAs}
 use Rattle.slot.specs.Clashes.{clash}
-use Rattle.slot.specs.Checks.{givenUp, badCheck, due, resendStatus, resendSlot}
+use Rattle.slot.specs.Checks.{givenUp, badCheck, resendStatus, resendSlot}
 use Rattle.slot.specs.Expiry.{expiryAt, expireSlot}
 
 -- the address 2001:db8::n
@@ -121,9 +121,7 @@ bad = (refl, refl)
 
 -- "each check whose count is below the number of moments reached": issued at 150, two moments are reached at 153; "the count becomes that number", and nothing
 -- else changes
-resends : (map (due 153) (checked 9 2 150 0 ∷ checked 9 2 150 1 ∷ checked 9 2 150 2 ∷ checked 0 0 152 0 ∷ Active ∷ Deprecated ∷ [])
-    ≡ true ∷ true ∷ false ∷ true ∷ false ∷ false ∷ [])
-    × (map (resendStatus 153) (checked 9 2 150 0 ∷ checked 9 2 150 1 ∷ checked 9 2 150 2 ∷ checked 9 2 150 4 ∷ Active ∷ Deprecated ∷ [])
-    ≡ checked 9 2 150 2 ∷ checked 9 2 150 2 ∷ checked 9 2 150 2 ∷ checked 9 2 150 4 ∷ Active ∷ Deprecated ∷ [])
+resends : (map (resendStatus 153) (checked 9 2 150 0 ∷ checked 9 2 150 1 ∷ checked 9 2 150 2 ∷ checked 9 2 150 4 ∷ checked 0 0 152 0 ∷ Active ∷ Deprecated ∷ [])
+    ≡ checked 9 2 150 2 ∷ checked 9 2 150 2 ∷ checked 9 2 150 2 ∷ checked 9 2 150 4 ∷ checked 0 0 152 1 ∷ Active ∷ Deprecated ∷ [])
     × (map (resendSlot 153) (held 1 (checked 9 2 150 0) ∷ held 2 Active ∷ empty ∷ []) ≡ held 1 (checked 9 2 150 2) ∷ held 2 Active ∷ empty ∷ [])
-resends = (refl, refl, refl)
+resends = (refl, refl)
