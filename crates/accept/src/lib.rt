@@ -1,5 +1,7 @@
 // What a Move comes to that refusals 7 to 10 judged: one of them, a repeat, or refusal 11 by the checks that steps 1 to 5 bring, the association after it and
 // the reply. Depends on steps, answer, judge, place, checks, reply, update, association, packet and refusal.
+#![tactic(auto)]
+
 ghost use Rattle.std.specs.Prelude.{◌≡◌, false, ◌≤◌, ◌<◌, length, take};
 ghost use Rattle.credit.specs.Clock.{time_limit};
 ghost use Rattle.slot.specs.Found.{slot_count};

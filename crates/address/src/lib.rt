@@ -1,4 +1,6 @@
 // Addresses, and which of them are legal. Depends on octets and boolean.
+#![tactic(auto)]
+
 ghost use Rattle.std.specs.Prelude.{◌≡◌};
 ghost use Rattle.address.specs.Rules.{address_at, same_address, legal};
 

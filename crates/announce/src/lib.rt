@@ -1,5 +1,7 @@
 // The call that announces our own addresses: refusals 0 and 17 to 21 in their order, and then the ESP_INFO, LOCATOR_SET and SEQ of a Move, written into the
 // buffer that the caller lends. Depends on announce_writer, own_list, announcement, reply, association, locator_set, parameter and refusal.
+#![tactic(auto)]
+
 ghost use Rattle.std.specs.Prelude.{◌≡◌, ℕ, ◌≤◌, ◌<◌, length, take};
 ghost use Rattle.reply_form.specs.Replies.{overwritten};
 ghost use Rattle.association.specs.declared.Association as associations;

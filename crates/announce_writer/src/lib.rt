@@ -1,5 +1,7 @@
 // LOCATOR_SET with our own list, as an announcement has it: its size, and its bytes written into the buffer that the caller lends. Depends on own_list,
 // announcement, reply, writer, locator_set, locator and parameter.
+#![tactic(auto)]
+
 ghost use Rattle.std.specs.Prelude.{ℕ, ◌+◌, ◌%◌, ◌≤◌, ◌≡◌, length, take};
 ghost use Rattle.locator.specs.Locators.{unit};
 ghost use Rattle.locator_set.specs.Sets.{mark};

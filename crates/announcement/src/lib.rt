@@ -1,6 +1,8 @@
 // Our own announcement: the list that we announce, the bytes that are written for it, refusals 17 to 21, and the whole answer of the call. Depends on
 // association, reply_form, locator_set, locator and parameter. Definitions, laws and the types that they are about; the code that meets them stands in
 // `own_list` and `announce`.
+#![tactic(auto)]
+
 use address::Address;
 use association::{Association, Outcome};
 

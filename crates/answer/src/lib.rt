@@ -1,4 +1,6 @@
 // The answers to a refused message and to a Reply. Depends on verify, update, association, packet and refusal.
+#![tactic(auto)]
+
 ghost use Rattle.std.specs.Prelude.{◌≡◌};
 ghost use Rattle.update.specs.Messages as messages;
 

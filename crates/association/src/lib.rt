@@ -1,4 +1,6 @@
 // The association: its form, refusal 0, and the start. Depends on credit, path, slots, slot, address, refusal, boolean.
+#![tactic(auto)]
+
 ghost use Rattle.std.specs.Prelude.{◌≡◌, ◌<◌};
 ghost use Rattle.credit.specs.Clock.{time_limit};
 ghost use Rattle.association.specs.Form.{beyond, refusal0};

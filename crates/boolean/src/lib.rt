@@ -1,5 +1,7 @@
 // Conjunction and disjunction as functions: a rule that is written as nested calls of these is one equation to prove.
 // Depends on nothing.
+#![tactic(auto)]
+
 ghost use Rattle.std.specs.Prelude.{◌≡◌, ◌&&◌, ◌||◌};
 
 pub fn both(a: bool, b: bool) -> bool

@@ -1,4 +1,6 @@
 // The times of a check that is not answered: when it is sent again, and when it is given up. Numbers alone. Depends on boolean.
+#![tactic(auto)]
+
 ghost use Rattle.std.specs.Prelude.{◌≡◌, cond, ◌-◌, leb};
 ghost use Rattle.check_times.specs.Times.{reached, is_due, is_given_up, is_bad_check};
 

@@ -1,5 +1,7 @@
 // New checks, and refusal 10. Depends on judge, listed, update, readdress, reply_form, association, locator,
 // locator_set, slots, slot and boolean.
+#![tactic(auto)]
+
 ghost use Rattle.std.specs.Prelude.{◌≡◌, ◌+◌, ◌≤◌, eqb, take, drop};
 ghost use Rattle.octets.specs.Records.{some};
 ghost use Rattle.slot.specs.declared.Locator as locators;

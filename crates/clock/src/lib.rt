@@ -1,4 +1,6 @@
 // The call that moves the clock, and the checks that it sends again. Depends on association, credit, resend, slots, slot, refusal.
+#![tactic(auto)]
+
 ghost use Rattle.std.specs.Prelude.{false, ◌≡◌, length};
 ghost use Rattle.reply_form.specs.Replies.{overwritten};
 ghost use Rattle.resend.specs.Resends.{refusal23};

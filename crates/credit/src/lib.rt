@@ -1,4 +1,6 @@
 // The numbers of credit and clock: their limits, what an arrival adds, and what ageing takes. Depends on boolean.
+#![tactic(auto)]
+
 ghost use Rattle.std.specs.Prelude.{◌≡◌};
 ghost use Rattle.credit.specs.Credit.{refusal13, credited, covers};
 ghost use Rattle.credit.specs.Clock.{refusal12, ageings, aged_once, aged_by, credit_at, last_ageing};

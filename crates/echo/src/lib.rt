@@ -1,4 +1,6 @@
 // For the log: the part of a packet that echoes a nonce. Depends on frame, parameter.
+#![tactic(auto)]
+
 ghost use Rattle.std.specs.Prelude.{◌≡◌, ◌+◌, ◌≤◌, length};
 ghost use Rattle.echo.specs.Parts.{same_bytes, echoes, at_end, place_of, Part};
 

@@ -1,5 +1,7 @@
 // The list of our own locators that a record of a trace holds, and the numbers of a section. Depends on sections, announcement, locator_set, address,
 // octets, boolean.
+#![tactic(auto)]
+
 ghost use Rattle.std.specs.Prelude.{◌≡◌, true};
 ghost use Rattle.entries.specs.Numbers.{number_of, is_narrow};
 ghost use Rattle.entries.specs.Entries.{entry_count, is_entry, are_entries, blank, entry_of, listed_at, list_of};

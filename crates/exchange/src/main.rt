@@ -4,6 +4,8 @@
 // - "Start at ID none, Move 0 accepted; Move 0 again Repeated; after Move 5, Move 4 gives 7".
 // The file `stdout` was written from document 01, and the check compares the two. Depends on message, association and the crates of their types,
 // on writer to build packets, and on the kit's io and libc to print.
+#![tactic(auto)]
+
 use address::Address;
 use association::{Answer, Association, Outcome};
 use judge::REPLY_ROOM;

@@ -1,5 +1,7 @@
 // What a program in C or Rust links to measure the core by: the whole answer to a packet, and to calls one after another, each as one number, so that
 // nothing of it can be left out by a compiler. Depends on packet, message, payload, clock, association and the crates of their types.
+#![tactic(auto)]
+
 ghost use Rattle.std.specs.Prelude.{◌≡◌, true, take};
 ghost use Rattle.packet.specs.Readings.{reading_of};
 ghost use Rattle.clock.specs.Ticks as ticks;

@@ -1,4 +1,6 @@
 // The frame of an UPDATE packet: its header, the walk over all its parameters, and refusal 3. Depends on parameter, octets, refusal.
+#![tactic(auto)]
+
 ghost use Rattle.std.specs.Prelude.{◌≡◌, cond};
 ghost use Rattle.parameter.specs.Types.{refused_type};
 ghost use Rattle.frame.specs.Header.{header_holds};

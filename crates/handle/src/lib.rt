@@ -1,5 +1,7 @@
 // A Move that is read: refusals 7 to 10 in their order, and Repeated; what comes of that is `accept`'s. Depends on accept, judge, verify, checks, update,
 // association, packet and refusal.
+#![tactic(auto)]
+
 ghost use Rattle.std.specs.Prelude.{◌≡◌, length, take};
 ghost use Rattle.reply_form.specs.Replies.{overwritten};
 ghost use Rattle.update.specs.Messages as messages;

@@ -8,6 +8,8 @@
 //
 // Before the answer the peer host may not send payload to the new address: it has no credit. After it, it may. HMAC and signature stay with the host. Depends
 // on announce, message, payload, association and the crates of their types, on writer and text to build packets, and on the kit's io and libc to print.
+#![tactic(auto)]
+
 use address::Address;
 use announcement::OwnLocator;
 use association::Association;

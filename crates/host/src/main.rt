@@ -1,6 +1,8 @@
 // A host that makes the six calls, one after another, on one association. README.md shows this file whole.
 // Depends on association, message, payload, clock, announce and the crates of their types, on writer to build a packet, and on the kit's io and libc to
 // print.
+#![tactic(auto)]
+
 use address::Address;
 use announcement::OwnLocator;
 use association::{Answer, Association, Outcome};

@@ -1,5 +1,7 @@
 // The refusals of a message that are tests on numbers: 1, 2, 7, 9 and 11, and what is Repeated. Depends on update, listed, association, locator,
 // locator_set and boolean.
+#![tactic(auto)]
+
 ghost use Rattle.std.specs.Prelude.{◌≡◌, take};
 ghost use Rattle.update.specs.Refusals.{refusal1, refusal2, refusal7, repeats, refusal9, refusal11};
 

@@ -1,5 +1,7 @@
 // Questions about the locators that a Move lists, which are the first `count` of an array. Depends on update, readdress, locator, locator_set, address
 // and boolean.
+#![tactic(auto)]
+
 ghost use Rattle.std.specs.Prelude.{◌≡◌, take};
 ghost use Rattle.octets.specs.Records.{some};
 ghost use Rattle.readdress.specs.Steps.{is_listed};

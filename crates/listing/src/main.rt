@@ -2,6 +2,8 @@
 // its length L and where its L bytes start, and a line for how the reader ended. Then, as a log would have it, a line for each of some packets and nonces
 // with the part of the packet that `echo::echo_part` hands back. The file `stdout` was written from document 01, and the check compares the two.
 // Depends on reader, echo and the crates of their types, on writer to build packets, and on the kit's io and libc to print.
+#![tactic(auto)]
+
 use libc::STDOUT_FILENO;
 use parameter::{NONCE_SIZE, Parameter, Step};
 use refusal::Refusal;

@@ -1,4 +1,6 @@
 // A locator of a LOCATOR_SET, and what refusal 6 refuses of it. Depends on address, octets, boolean, refusal.
+#![tactic(auto)]
+
 ghost use Rattle.std.specs.Prelude.{◌≡◌, ◌+◌, ◌≤◌, ◌<◌, length};
 ghost use Rattle.locator.specs.Locators.{ill_form, spi_at, locator_step_at};
 

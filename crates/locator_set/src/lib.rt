@@ -1,4 +1,6 @@
 // The locators of a LOCATOR_SET and refusal 6. Depends on locator, address, refusal.
+#![tactic(auto)]
+
 ghost use Rattle.std.specs.Prelude.{◌≡◌, false, ◌≤◌, ◌<◌};
 ghost use Rattle.octets.specs.Records.{some};
 ghost use Rattle.address.specs.Rules.{same_address};

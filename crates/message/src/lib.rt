@@ -1,6 +1,8 @@
 // The message call: refusals 0 to 6 in their order, and then what `handle` makes of a Move, `answer` of a Reply and `respond` of a Check. Depends on handle,
 // respond, answer, judge, update, association, packet and refusal. The packet is read once, by `packet`; nothing here or below reads its bytes again, but
 // that a Check's opaque bytes are copied into the reply.
+#![tactic(auto)]
+
 ghost use Rattle.std.specs.Prelude.{◌≡◌};
 ghost use Rattle.update.specs.Messages as messages;
 

@@ -1,6 +1,8 @@
 // Big-endian numbers in a slice of bytes, total for every place. Depends on nothing.
 // Each is read low end first, as two halves that are numbers of half the width, and then its bytes are swapped, half by half. The two are functions of their
 // own: so each is compiled to one load, or one byte swap, before both are made part of their callers, which then use some of the bytes alone.
+#![tactic(auto)]
+
 ghost use Rattle.std.specs.Prelude.{◌≡◌, ◌+◌, ◌≤◌, ◌<◌, length};
 ghost use Rattle.octets.specs.Numbers.{big_endian, number_at};
 ghost use Rattle.octets.specs.Halves.{swapped};

@@ -1,5 +1,7 @@
 // The list that we announce, which is the first `count` entries of an array: refusals 17 and 18 of it, and the size of its set. The entries are judged as
 // they are held, and the answers are those of the bytes that would be written. Depends on announcement, locator_set, locator, address and boolean.
+#![tactic(auto)]
+
 ghost use Rattle.std.specs.Prelude.{◌≡◌, Bool, [], ℕ, ◌+◌, ◌*◌, ◌≤◌, min, length, take};
 ghost use Rattle.octets.specs.Records.{some};
 ghost use Rattle.address.specs.Rules.{same_address};

@@ -1,5 +1,7 @@
 // What a packet says: refusals 3 to 6, or a Move, a Reply or a Check with all that the layers above ask of it, so that none of them reads packet bytes.
 // Depends on frame, parameter, locator_set, locator, octets, boolean, refusal.
+#![tactic(auto)]
+
 ghost use Rattle.std.specs.Prelude.{◌≡◌, ◌+◌, ◌≤◌, length};
 ghost use Rattle.packet.specs.Kinds.{is_move, is_reply, is_check};
 ghost use Rattle.packet.specs.Readings.{echo_of, fields_of, refusing, move_of, check_of, opaque_of, kind_of, reading_of};

@@ -1,4 +1,6 @@
 // A parameter of an UPDATE packet: its type, its length, and one step of the walk over parameters. Depends on octets, boolean, refusal.
+#![tactic(auto)]
+
 ghost use Rattle.std.specs.Prelude.{◌≡◌};
 ghost use Rattle.parameter.specs.Types.{refused_type, wrong_length};
 ghost use Rattle.parameter.specs.Parameters.{takes, step_at};

@@ -1,5 +1,7 @@
 // The choice of path: which slot a payload may go to. Depends on slots, slot and boolean.
 // The functions take the slots and not the association, so that they serve an association with several sets of slots.
+#![tactic(auto)]
+
 ghost use Rattle.std.specs.Prelude.{◌≡◌};
 ghost use Rattle.slot.specs.Found.{slot_at};
 ghost use Rattle.path.specs.Choices.{carries, lowest, choice, path_of};

@@ -1,5 +1,7 @@
 // The calls about payload: an arrival earns credit, and a send is granted a slot or refused. Depends on association, credit, path, slot,
 // refusal.
+#![tactic(auto)]
+
 ghost use Rattle.std.specs.Prelude.{◌≡◌};
 ghost use Rattle.payload.specs.Calls.{arrival_of, send_to, send_of};
 

@@ -1,4 +1,6 @@
 // Steps 5 and 6 of a Move: slots for the listed addresses that none holds, and the preference. Depends on readdress, credit, path, slot and address.
+#![tactic(auto)]
+
 ghost use Rattle.std.specs.Prelude.{◌≡◌, cond, ◌<◌, take};
 ghost use Rattle.credit.specs.Clock.{time_limit};
 ghost use Rattle.slot.specs.Found.{holds, slot_count};

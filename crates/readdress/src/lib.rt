@@ -1,5 +1,7 @@
 // What a message does to the slots: steps 1 to 6 of document 01, the new checks, and refusals 8 and 10. Depends on packet, path, slots and slot.
 // Definitions, laws and the types that they are about. The code that meets them stands in the crates above.
+#![tactic(auto)]
+
 use path::Preference;
 use slot::{SLOT_COUNT, Slot};
 

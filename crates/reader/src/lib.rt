@@ -1,4 +1,6 @@
 // A reader over a packet's parameters: it keeps the packet that it was given and its place. Depends on frame, parameter, refusal.
+#![tactic(auto)]
+
 ghost use Rattle.std.specs.Prelude.{◌≡◌};
 ghost use Rattle.reader.specs.Readers.{start, advanced_of, fresh, stepped_of};
 

@@ -4,6 +4,8 @@
 // base packet a line has the answers to the packets of its edits as one number, and the last line has the number of all edits. A file of another form ends
 // in the line `malformed`.
 // Depends on exported, on octets, and on the kit's io and libc to read and print.
+#![tactic(auto)]
+
 ghost use Rattle.std.specs.Prelude.{◌+◌, ◌≤◌, length};
 ghost use Rattle.readings.specs.Bases.{Within, Found};
 

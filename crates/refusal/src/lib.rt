@@ -1,4 +1,6 @@
 // The refusals of document 01's table and of the orders after it, as one enum for every call. Depends on nothing.
+#![tactic(auto)]
+
 ghost use Rattle.std.specs.Prelude.{◌≡◌};
 ghost use Rattle.refusal.specs.Table.{number_of};
 

@@ -3,6 +3,8 @@
 // Crates trace and entries decode a record, crate lines says what each line is, and crate text spells numbers. calls.rt makes the calls; answers.rt,
 // state.rt and words.rt put the lines; this file reads and writes. Depends on announce, message, payload, clock, association and the crates of their
 // types, on trace, entries, sections, lines and text, and on the kit's os, io and libc.
+#![tactic(auto)]
+
 mod answers;
 mod calls;
 mod state;

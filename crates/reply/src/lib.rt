@@ -1,4 +1,6 @@
 // The parameters of a reply, of a check that is sent again and of an announcement, and a reply as a whole, written into the buffer that the caller lends. Depends on reply_form, writer and parameter.
+#![tactic(auto)]
+
 ghost use Rattle.std.specs.Prelude.{◌+◌, ◌*◌, ◌%◌, ◌≤◌, ◌≡◌, ◌++◌, length, get_or};
 ghost use Rattle.octets.specs.Written.{bytes_of};
 ghost use Rattle.parameter.specs.Written.{parameter_bytes};

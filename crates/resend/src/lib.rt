@@ -1,5 +1,7 @@
 // The checks that a tick sends again: their bytes, written into the buffer that the caller lends, and the slots after them. Depends on reply, reply_form,
 // parameter, slots, slot and check_times. The functions take the slots and not the association, so that they serve an association with several sets of slots.
+#![tactic(auto)]
+
 ghost use Rattle.std.specs.Prelude.{◌+◌, ◌≤◌, ◌≡◌, length};
 ghost use Rattle.writer.specs.Writes.{written_at};
 ghost use Rattle.reply_form.specs.Replies.{resend_size, resend_bytes, overwritten};

@@ -1,5 +1,7 @@
 // A Check: refusals 22 and 7, Repeated, and the answer with the same opaque bytes. Check is order 1's term for the peer's check of one of our addresses.
 // Depends on answer, judge, reply, text, update, association and refusal.
+#![tactic(auto)]
+
 ghost use Rattle.std.specs.Prelude.{◌≡◌, ◌+◌, ◌≤◌, length};
 ghost use Rattle.parameter.specs.Parameters.{takes};
 ghost use Rattle.writer.specs.Writes.{written_at};

@@ -1,4 +1,6 @@
 // A record of three sections, each after its count of bytes: what a trace is a run of. Depends on octets.
+#![tactic(auto)]
+
 ghost use Rattle.std.specs.Prelude.{◌≡◌, min};
 ghost use Rattle.sections.specs.Records.{size_of, Part, section_step_at, record_step_at};
 

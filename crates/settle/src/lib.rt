@@ -1,4 +1,6 @@
 // Steps 2, 3 and 4 of a Move: what becomes of the locators that are held. Depends on listed, readdress, credit, slots and slot.
+#![tactic(auto)]
+
 ghost use Rattle.std.specs.Prelude.{◌≡◌, map, ◌<◌, take};
 ghost use Rattle.credit.specs.Clock.{time_limit};
 ghost use Rattle.slot.specs.Found.{on_locator};

@@ -1,4 +1,6 @@
 // A slot and the locator that it holds: its status, its expiry, and what two slots may not share. Depends on address, check_times and boolean.
+#![tactic(auto)]
+
 ghost use Rattle.std.specs.Prelude.{◌≡◌};
 ghost use Rattle.slot.specs.Found.{with_status, is_deprecated, is_nonce, held_as};
 ghost use Rattle.slot.specs.Clashes.{same_nonce, clash};

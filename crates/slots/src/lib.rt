@@ -1,5 +1,7 @@
 // The slots of an association, all of them: whether two clash, their checks, their expiry, and which nonces are outstanding. Depends on slot.
 // The functions take the slots and not the association, so that they serve an association with several sets of slots.
+#![tactic(auto)]
+
 ghost use Rattle.std.specs.Prelude.{◌||◌, ◌≡◌};
 ghost use Rattle.slots.specs.Rules.{clashing, bad_checks, expire_all, is_outstanding};
 ghost use Rattle.slots.specs.Past.{past};

@@ -1,4 +1,6 @@
 // Steps 1 to 5 of a Move, one after another. Depends on verify, settle, place, update, association and packet.
+#![tactic(auto)]
+
 ghost use Rattle.std.specs.Prelude.{◌≡◌, take};
 ghost use Rattle.steps.specs.Timely.{placement_at};
 

@@ -1,6 +1,8 @@
 // Text in a lent buffer, total for every place: bytes as they are, bytes in hex, and numbers in decimal. Depends on writer, for its definitions and
 // laws alone.
 // Each function answers where the next text goes. Where a text does not fit whole, nothing is written and the place stays.
+#![tactic(auto)]
+
 ghost use Rattle.std.specs.Prelude.{◌≡◌, ◌/◌, ◌%◌, ◌<◌, length, drop};
 ghost use Rattle.writer.specs.Writes.{written_at};
 ghost use Rattle.text.specs.Texts.{glyph_of, hex_of, decimal_of, end_of};

@@ -1,4 +1,6 @@
 // A record of a trace as the call that it stands for. Depends on entries, sections, address, reply_form, boolean.
+#![tactic(auto)]
+
 ghost use Rattle.std.specs.Prelude.{◌≡◌, true};
 ghost use Rattle.trace.specs.Calls.{has_sizes, is_start, start_of, is_message, message_of, is_tick, tick_of, has_list_sizes, is_announcement, announcement_of, plain_of, call_of, nonces_of};
 

@@ -1,5 +1,7 @@
 // The message call: refusals 0 to 11 and 22, what an accepted message leaves and what is written back. Depends on readdress, reply_form, association and packet.
 // Definitions, laws and the types that they are about. The code that meets them stands in the crates above.
+#![tactic(auto)]
+
 use association::Association;
 use refusal::Refusal;
 

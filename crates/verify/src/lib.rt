@@ -1,4 +1,6 @@
 // Step 1, and refusal 8: an echo response against the checks that are out. Depends on readdress, packet, slots and slot.
+#![tactic(auto)]
+
 ghost use Rattle.std.specs.Prelude.{◌≡◌};
 ghost use Rattle.slot.specs.Found.{on_locator};
 ghost use Rattle.readdress.specs.Echoes as rules;

@@ -1,5 +1,7 @@
 // Big-endian numbers written into a lent buffer, total for every place. Depends on octets, for its definitions alone.
 // Each byte is a quotient by a power of 256, cut to eight bits, so that no cast can lose anything.
+#![tactic(auto)]
+
 ghost use Rattle.std.specs.Prelude.{◌≡◌};
 ghost use Rattle.octets.specs.Written.{bytes_of};
 ghost use Rattle.writer.specs.Writes.{written_at};
