@@ -44,6 +44,7 @@ pub fn same(a: Address, b: Address) -> bool
 }
 
 // An address that may be announced. A high half other than 0 decides alone; among the others an IPv4 address before 224.0.0.0 is found first.
+#[tactic(auto, unfolding(crate::specs::Rules::legal))]
 pub fn is_legal(a: Address) -> bool
     ensures { result ≡ legal a }
 {
