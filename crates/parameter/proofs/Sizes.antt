@@ -1,7 +1,7 @@
 -- A parameter that is written takes the bytes that one takes in all. Assumes nothing.
 use mathlib.Core.Path.{◌≡◌}
 use mathlib.Core.List.{List}
-use Prim.Native.Nat.{ℕ, ◌-◌}
+use Prim.Native.Nat.{ℕ}
 use lib.ListN.{length, length-append, length-replicate}
 use native.Mathlib.Omega.{arith}
 use Rattle.octets.proofs.Sizes.{bytes_length}

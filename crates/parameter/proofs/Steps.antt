@@ -1,31 +1,17 @@
--- One step of the walk: which case of the definition each test leads to, and what an answer says of the place. Assumes nothing.
+-- One step of the walk: what an answer says of the place. Assumes nothing.
 use mathlib.Core.Path.{◌≡◌, refl, sym, ◌∙◌}
-use mathlib.Core.Bool.{Bool, true, false, cond, or-true}
+use mathlib.Core.Bool.{Bool, true, false, cond}
 use mathlib.Core.List.{List}
 use Prim.Native.Nat.{ℕ, ◌<◌, ◌≤◌}
 use lib.Dec.{leb}
 use lib.ListN.{length}
-use borrow.Author.Tests.{lt-ltb, le-ltb, le-leb, lt-leb, leb-true, leb-false}
+use borrow.Author.Tests.{leb-true, leb-false}
 use Rattle.refusal.specs.declared.Refusal.{Refusal}
 use Rattle.refusal.specs.Table.{refusal}
 use Rattle.parameter.specs.declared.Parameter.{Parameter}
 use Rattle.parameter.specs.declared.Step.{Step}
 use Rattle.parameter.specs.declared.Step.TheVariants.{Found, End, Refused}
-use Rattle.parameter.specs.Parameters.{parameter_at, wrong, step_at, broken}
-
--- ---- one step, by the tests of the code
-module _ (s : List ℕ) (at : ℕ) where
-  pub step_end : length s ≤ at → End ≡ step_at s at
-  step_end h = rw (le-leb _ _ h)
-
-  pub step_past : at < length s → length s < (parameter_at s at).next → Refused (refusal 3) ≡ step_at s at
-  step_past h e = rw (lt-leb _ _ h, lt-ltb _ _ e)
-
-  pub step_wrong : at < length s → wrong (parameter_at s at) ≡ true → Refused (refusal 3) ≡ step_at s at
-  step_wrong h e = simp (lt-leb _ _ h, e, or-true)
-
-  pub step_found : at < length s → (parameter_at s at).next ≤ length s → wrong (parameter_at s at) ≡ false → Found (parameter_at s at) ≡ step_at s at
-  step_found h e w = rw (lt-leb _ _ h, le-ltb _ _ e, w)
+use Rattle.parameter.specs.Parameters.{parameter_at, step_at, broken}
 
 -- ---- what an answer of a step says of the tests e, for the end, and b, for a broken parameter
 is_end : (e b : Bool) (p : Parameter) → End ≡ cond e End (cond b (Refused (refusal 3)) (Found p)) → e ≡ true

@@ -64,6 +64,7 @@ pub fn taken_by(len: u16) -> usize
 }
 
 // A type that refusal 4 refuses.
+#[tactic(auto, using(std::proofs::lemmas::Bool::Decides::nat_tests), unfolding(crate::specs::Types::refused_type, octets::specs::Records::some))]
 pub fn refused_type(kind: usize) -> bool
     ensures { result ≡ refused_type kind }
 {
@@ -82,6 +83,7 @@ pub fn refused_type(kind: usize) -> bool
 }
 
 // A length that refusal 3 refuses.
+#[tactic(auto, using(std::proofs::lemmas::Bool::Decides::nat_tests), unfolding(crate::specs::Types::wrong_length))]
 fn wrong_length(kind: usize, len: usize) -> bool
     ensures { result ≡ wrong_length kind len }
 {
