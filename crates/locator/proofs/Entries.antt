@@ -1,4 +1,4 @@
--- One locator of a set: which case of the definition each test leads to, and what an answer says of it. Assumes nothing.
+-- One locator of a set: one that is cut short is refused, one that is not refused lies within the set, and what an answer says. Assumes nothing.
 use mathlib.Core.Path.{◌≡◌, refl}
 use mathlib.Core.Bool.{Bool, true, false, not, cond, ◌||◌, or-true}
 use mathlib.Core.List.{List}
@@ -13,7 +13,7 @@ use Rattle.boolean.proofs.Laws.{or_false_left, or_false_right}
 use Rattle.address.specs.Rules.{legal}
 use Rattle.locator.specs.declared.ListedLocator.{ListedLocator}
 use Rattle.locator.specs.declared.LocatorStep.TheVariants.{Listed, Refused}
-use Rattle.locator.specs.Locators.{head_size, unit, traffic_at, kind_at, units_at, lifetime_at, listed_address, next_locator, ill_form, illegal_at, listed_at, locator_step_at}
+use Rattle.locator.specs.Locators.{head_size, unit, traffic_at, kind_at, units_at, lifetime_at, listed_address, next_locator, ill_form, illegal_at, locator_step_at}
 
 module _ (s : List ℕ) (at : ℕ) where
   -- a locator that has not 24 bytes is ill formed: its length is wrong, or it runs past the end
@@ -28,15 +28,6 @@ module _ (s : List ℕ) (at : ℕ) where
 
   pub step_short : length s - at < 24 → Refused (refusal 6) ≡ locator_step_at s at
   step_short h = rw (short_ill h)
-
-  pub step_ill : ill_form s at ≡ true → Refused (refusal 6) ≡ locator_step_at s at
-  step_ill h = rw h
-
-  pub step_illegal : legal (listed_address s at) ≡ false → Refused (refusal 6) ≡ locator_step_at s at
-  step_illegal h = simp (h, or-true)
-
-  pub step_listed : ill_form s at ≡ false → legal (listed_address s at) ≡ true → Listed (listed_at s at) (next_locator s at) ≡ locator_step_at s at
-  step_listed f h = rw (f, h)
 
   -- a locator that is not illegal lies within the set
   pub lies_within : illegal_at s at ≡ false → (next_locator s at ≤ length s) × (at < next_locator s at)

@@ -36,6 +36,7 @@ pub enum LocatorStep {
 }
 
 // The locator at `at`, of which the eight bytes of the head are there, has a form that refusal 6 refuses.
+#[tactic(auto, unfolding(crate::specs::Locators::ill_form))]
 fn ill_form(s: &[u8], at: usize) -> bool
     requires { at + 8 ≤ length s.now }
     ensures { result ≡ ill_form s.now at }
@@ -67,6 +68,7 @@ fn spi_at(s: &[u8], at: usize) -> u32
 }
 
 // One step of the walk over a set: what stands at `at`, for every place of any slice.
+#[tactic(auto, using(crate::proofs::Entries::step_short))]
 pub fn locator_step(s: &[u8], at: usize) -> LocatorStep
     ensures { result ≡ locator_step_at s.now at }
 {
