@@ -1,6 +1,6 @@
 -- Worked examples, computed from the definitions: records in hex.
 use Rattle.std.specs.Prelude.{ℕ, ◌+◌, ◌≡◌, refl, List, [], ◌∷◌, ◌++◌, map}
-use denote.Ref.{MutBor, at_last}
+use Rattle.std.specs.Borrow.{Bor}
 use Rattle.octets.specs.ExamplesHex.{hex}
 use Rattle.octets.specs.Written.{bytes_of}
 use Rattle.sections.specs.declared.Section.{Section}
@@ -53,11 +53,15 @@ sections = from 2 4 ∷ from 4 2 ∷ from 11 40 ∷ from 40 41 ∷ []
 parts : (map size_of sections ≡ 2 ∷ 0 ∷ 29 ∷ 1 ∷ []) × (map (bytes_in bytes) sections ≡ (7 ∷ 8 ∷ []) ∷ [] ∷ (5 ∷ []) ∷ [] ∷ [])
 parts = (refl, refl)
 
+-- a reference to where s points, with these bytes there
+abbrev holding : Bor (List ℕ) → List ℕ → Bor (List ℕ)
+holding s bytes = record { ref_ptr = s.ref_ptr; now = bytes }
+
 -- the part that is lent: it points into the same memory, at the section's place, and holds its bytes; one that is not there points to its own end,
 -- or to the end of the bytes
-lent : (s r : MutBor (List ℕ)) → Part (at_last s bytes) (from 2 4) r → (r.now ≡ 7 ∷ 8 ∷ []) × (r.ref_ptr.0 ≡ s.ref_ptr.0) × (r.ref_ptr.1 ≡ s.ref_ptr.1 + 2)
+lent : (s r : Bor (List ℕ)) → Part (holding s bytes) (from 2 4) r → (r.now ≡ 7 ∷ 8 ∷ []) × (r.ref_ptr.0 ≡ s.ref_ptr.0) × (r.ref_ptr.1 ≡ s.ref_ptr.1 + 2)
 lent s r part = (part.bytes, part.memory, part.offset)
 
-absent : (s r q : MutBor (List ℕ)) → Part (at_last s bytes) (from 4 2) r → Part (at_last s bytes) (from 40 41) q →
+absent : (s r q : Bor (List ℕ)) → Part (holding s bytes) (from 4 2) r → Part (holding s bytes) (from 40 41) q →
     (r.ref_ptr.1 ≡ s.ref_ptr.1 + 2) × (q.ref_ptr.1 ≡ s.ref_ptr.1 + 12)
 absent s r q backward beyond = (backward.offset, beyond.offset)
