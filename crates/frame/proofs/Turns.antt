@@ -96,9 +96,6 @@ module _ (s : List ℕ) (seen : Survey) (last at : ℕ) (w : Walking s seen last
       let ill : ill_after s last (parameter_at s at) ≡ true = rw q.1.0 in
       ap Rejected q.1.1 ∙ (sym (judged_ill s last seen (parameter_at s at) _ ill) ∙ front q.0)
 
-  pub nearer : {p : Parameter} → r ≡ Found p → length s - p.next < length s - at
-  nearer e = let q = at_found s at g e in rw q.1.1 (omega (arith, q.0))
-
   pub refuses_fall : {p : Parameter} → r ≡ Found p → p.kind < last → Rejected (refusal 3) ≡ walk_of s
   refuses_fall e f =
       let q = at_found s at g e in

@@ -20,7 +20,7 @@ const UPDATE: u8 = 16;
 const HIP_VERSION: u8 = 2;
 
 // How often a type occurs in a packet, 0, 1, or 2 for more, with the place and the length of the first one.
-#[derive(Drop)]
+#[derive(Clone, Copy)]
 pub struct Occurrence {
     pub times: usize,
     pub body: usize,
@@ -89,6 +89,7 @@ fn note_type(unknown: usize, kind: usize) -> usize
 }
 
 // What has been seen after one more parameter. Every type that is counted or refused is odd, so an even one is passed at once.
+#[tactic(auto, using(crate::proofs::Even::even_passed))]
 fn note(seen: Survey, kind: usize, body: usize, len: usize) -> Survey
     ensures { result ≡ noted seen kind body len }
 {
