@@ -5,7 +5,7 @@ use mathlib.Core.Logic.{◌⊎◌, inl, inr}
 use Prim.Native.Nat.{ℕ}
 use lib.Dec.{leb}
 use Rattle.boolean.proofs.Laws.{apart, or_false_right}
-use Rattle.check_times.specs.Times.{is_due, is_given_up, is_bad_check}
+use Rattle.check_times.specs.Times.{is_due, is_given_up}
 use Rattle.slot.specs.declared.Check.{Check}
 use Rattle.slot.specs.declared.Status.{Status}
 use Rattle.slot.specs.declared.Status.TheVariants.{Unverified, Active, Deprecated}
@@ -14,7 +14,7 @@ use Rattle.slot.specs.declared.Holding.{Holding}
 use Rattle.slot.specs.declared.Holding.TheVariants.{Empty, Held}
 use Rattle.slot.specs.declared.Slot.{Slot}
 use Rattle.slot.specs.Found.{with_status, on_held, on_locator, status_of, is_unverified, found_as, held_as}
-use Rattle.slot.specs.Checks.{given_up, bad_check, resent, resend_status, resend_slot}
+use Rattle.slot.specs.Checks.{given_up, resent, resend_status, resend_slot}
 use Rattle.slot.specs.Expiry.{is_over, expire_held, expire_slot}
 use Rattle.slot.proofs.Settled.{Settles}
 

@@ -14,7 +14,7 @@ pub const SLOT_COUNT: usize = 8;
 
 // The check that is out for an address: the nonce that its echo must hold, the time of its issue, the Update ID that it was sent with, and how often it
 // was sent again. The longer numbers stand first, so that it takes no more room than it must.
-#[derive(Drop)]
+#[derive(Clone, Copy)]
 pub struct Check {
     pub nonce: u64,
     pub issued: u64,
@@ -23,7 +23,7 @@ pub struct Check {
 }
 
 // UNVERIFIED, with its check; ACTIVE; DEPRECATED.
-#[derive(Drop)]
+#[derive(Clone, Copy)]
 pub enum Status {
     Unverified(Check),
     Active,
@@ -31,7 +31,7 @@ pub enum Status {
 }
 
 // A locator that is held.
-#[derive(Drop)]
+#[derive(Clone, Copy)]
 pub struct Locator {
     pub address: Address,
     pub traffic: u8,
@@ -39,13 +39,13 @@ pub struct Locator {
     pub status: Status,
 }
 
-#[derive(Drop)]
+#[derive(Clone, Copy)]
 pub enum Holding {
     Empty,
     Held(Locator),
 }
 
-#[derive(Drop)]
+#[derive(Clone, Copy)]
 pub struct Slot {
     pub holding: Holding,
 }
@@ -108,6 +108,7 @@ fn same_nonce(x: Status, y: Status) -> bool
 }
 
 // Two slots that no association may hold together: one address, or one nonce, stands in both.
+#[tactic(auto, unfolding(crate::specs::Clashes::clash))]
 pub fn clashes(x: Slot, y: Slot) -> bool
     ensures { result ≡ clash x y }
 {
