@@ -33,7 +33,7 @@ pub resend_length : (inbound id nonce : ℕ) → length (resend_bytes inbound id
 resend_length inbound id nonce = with_length inbound id nonce [] ∙ omega arith
 
 pub check_length : (inbound peer id nonce : ℕ) → length (check_bytes inbound peer id nonce) ≡ check_size
-check_length inbound peer id nonce = omega (arith, with_length inbound id nonce (ack_bytes peer), ack_length peer)
+check_length inbound peer id nonce = simp (length-append, parameter_length, bytes_length)
 
 pub checks_length : (inbound peer next : ℕ) (nonces : List ℕ) (k count : ℕ) → length (checks_bytes inbound peer next nonces k count) ≡ check_size * count
 unfolding checks_bytes
