@@ -2,15 +2,11 @@
 use Prim.Native.Nat.{ℕ}
 use mathlib.Core.Path.{◌≡◌, refl, sym, ◌∙◌}
 use mathlib.Core.Bool.{Bool, false}
-use Rattle.slot.specs.declared.Locator.{Locator}
 use Rattle.slot.specs.declared.Holding.{Holding}
 use Rattle.slot.specs.declared.Holding.TheVariants.{Empty, Held}
 use Rattle.slot.specs.declared.Slot.{Slot}
-use Rattle.slot.specs.Expiry.{is_over, expire_held, expire_slot}
+use Rattle.slot.specs.Expiry.{expire_held, expire_slot}
 use Rattle.slots.specs.Past.{past_held, past}
-
-pub past_held_lem : (time : ℕ) (s : Slot) (l : Locator) (b : Bool) → s.holding ≡ Held l → b ≡ is_over time l → b ≡ past time s
-past_held_lem time s l b p q = q ∙ simp p
 
 kept : (time : ℕ) (h : Holding) → past_held time h ≡ false → h ≡ expire_held time h
 kept time Empty e = refl
