@@ -18,7 +18,7 @@ pub const LEAST_SIZE: usize = 24;
 pub const SPI_TYPE: u8 = 1;
 
 // A locator as a set lists it. `kind` is its locator type, and `spi` the SPI of a type 1 locator, 0 for type 0.
-#[derive(Drop)]
+#[derive(Clone, Copy)]
 pub struct ListedLocator {
     pub address: Address,
     pub lifetime: u32,

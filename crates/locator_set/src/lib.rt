@@ -32,6 +32,7 @@ pub struct LocatorSet {
 }
 
 // The address is among the first `count` that the arrays hold.
+#[tactic(auto, using(crate::proofs::Earlier::held_hit, crate::proofs::Earlier::held_miss, crate::proofs::Earlier::held_none))]
 fn held(highs: &[u64; SET_LIMIT], lows: &[u64; SET_LIMIT], count: usize, address: Address) -> bool
     requires { count ≤ set_limit }
     ensures { result ≡ some (same_address address) (addresses count highs.now lows.now) }
@@ -59,6 +60,7 @@ fn bucket_of(address: Address) -> usize
 }
 
 // The address is among them. Their buckets are used, so one whose bucket is not used is none of them and is compared with none.
+#[tactic(auto, using(crate::proofs::Earlier::other_bucket))]
 fn is_twice(
     used: &[bool; BUCKET_COUNT],
     highs: &[u64; SET_LIMIT],
