@@ -2,7 +2,7 @@
 use mathlib.Core.Path.{◌≡◌, refl, ◌∙◌, ap}
 use mathlib.Core.Bool.{Bool, true, false, cond}
 use mathlib.Core.List.{List}
-use Prim.Native.Nat.{ℕ, ◌-◌}
+use Prim.Native.Nat.{ℕ}
 use Rattle.boolean.proofs.Laws.{and_true_right}
 use Rattle.slot.specs.declared.Status.{Status}
 use Rattle.slot.specs.declared.Holding.{Holding}

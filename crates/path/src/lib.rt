@@ -15,20 +15,20 @@ pub const TRAFFIC_BOTH: u8 = 0;
 pub const TRAFFIC_DATA: u8 = 2;
 
 // The slot that the peer prefers, or none.
-#[derive(Drop)]
+#[derive(Clone, Copy)]
 pub enum Preference {
     NoPreference,
     Prefers(usize),
 }
 
-#[derive(Drop)]
+#[derive(Clone, Copy)]
 pub enum Choice {
     Nowhere,
     Chosen(usize),
 }
 
 // The slot that is picked, with the status that it has, or no carrier is ACTIVE or UNVERIFIED.
-#[derive(Drop)]
+#[derive(Clone, Copy)]
 pub enum Path {
     ToActive(usize),
     ToUnverified(usize),
@@ -111,6 +111,7 @@ fn choose(slots: [Slot; SLOT_COUNT], preference: Preference, active: bool) -> Ch
 }
 
 // The path that a payload takes: to ACTIVE if there is one, or else to UNVERIFIED.
+#[tactic(auto, unfolding(crate::specs::Choices::path_of))]
 pub fn pick(slots: [Slot; SLOT_COUNT], preference: Preference) -> Path
     ensures { result ≡ path_of preference slots }
 {
