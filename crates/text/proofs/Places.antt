@@ -20,11 +20,6 @@ unfolding digits_of
 no_digits zero = refl
 no_digits (suc places) = refl
 
--- where something is left, a place is left
-pub place_left : (first rest : ℕ) → 0 < rest → rest < 10 ^ first → 0 < first
-place_left zero rest h b = absurd (omega arith)
-place_left (suc first) rest h b = omega arith
-
 -- one digit more: the last digit of what is left stands before those that are there
 pub next_digit : (first rest : ℕ) (places : List ℕ) → 0 < rest → rest < 10 ^ first → first ≤ length places
     → (rest / 10 < 10 ^ (first - 1))
