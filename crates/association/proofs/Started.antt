@@ -1,5 +1,5 @@
 -- What a start makes. Assumes nothing.
-use mathlib.Core.Path.{◌≡◌, refl, sym, ◌∙◌}
+use mathlib.Core.Path.{◌≡◌, refl}
 use mathlib.Core.Bool.{Bool, true, false, not, cond, ◌||◌}
 use mathlib.Core.Option.{none, some}
 use Prim.Native.Nat.{ℕ, ◌<◌}
@@ -15,9 +15,8 @@ use Rattle.slot.specs.Found.{or_else, status_in}
 use Rattle.slot.specs.Clashes.{clash}
 use Rattle.slots.specs.Rules.{clashing}
 use Rattle.credit.specs.Clock.{time_limit}
-use Rattle.association.specs.declared.Association.{Association}
-use Rattle.association.specs.Form.{accepted, refused, refusal0}
-use Rattle.association.specs.Start.{unusable_spi, refusal16, no_association, start_slots, started, start_of}
+use Rattle.association.specs.Form.{refusal0}
+use Rattle.association.specs.Start.{unusable_spi, refusal16, no_association, start_slots, started}
 use Rattle.association.proofs.Sound.{not_refused, Formed}
 
 module _ (time outbound inbound : ℕ) (address : Address) (lifetime : ℕ) where
@@ -27,18 +26,9 @@ module _ (time outbound inbound : ℕ) (address : Address) (lifetime : ℕ) wher
   abbrev others : Bool
   others = unusable_spi outbound || (unusable_spi inbound || (eqb lifetime 0 || not (legal address)))
 
-  -- the answer, by whether refusal 16 holds
-  pub start_refused : (b : Bool) (a : Association) → b ≡ bad → b ≡ true → a ≡ no_association → refused 16 a ≡ start_of time outbound inbound address lifetime
-  unfolding start_of
-  start_refused b a p q e = rw (← p, q, e)
-
-  pub start_accepted : (b : Bool) (a : Association) → b ≡ bad → b ≡ false → a ≡ started time outbound inbound address lifetime →
-      accepted a ≡ start_of time outbound inbound address lifetime
-  unfolding start_of
-  start_accepted b a p q e = rw (← p, q, e)
-
-  pub start_early : (b : Bool) → b ≡ bad → b ≡ false → time < time_limit
-  start_early b p q = leb-false time_limit time (or_false_left (leb time_limit time) others (sym p ∙ q))
+  -- refusal 16 refuses a late start
+  start_early : bad ≡ false → time < time_limit
+  start_early p = leb-false time_limit time (or_false_left (leb time_limit time) others p)
 
   -- refusal 0 does not refuse what an accepted start makes
   pub started_formed : bad ≡ false → Formed (started time outbound inbound address lifetime)
@@ -47,7 +37,7 @@ module _ (time outbound inbound : ℕ) (address : Address) (lifetime : ℕ) wher
     whole = refl;
     unrefused =
         not_refused (started time outbound inbound address lifetime)
-        (record { time = start_early bad refl p; aged = omega arith; credit = omega arith; next = omega arith; preferred = refl; apart = refl; checks = refl });
+        (record { time = start_early p; aged = omega arith; credit = omega arith; next = omega arith; preferred = refl; apart = refl; checks = refl });
   }
 
   -- an accepted start holds its address ACTIVE, and no other

@@ -16,14 +16,14 @@ use slot::{Holding, Locator, SLOT_COUNT, Slot, Status};
 pub const ID_LIMIT: u64 = 4294967296;
 
 // The highest Update ID of the peer, or none was seen.
-#[derive(Drop)]
+#[derive(Clone, Copy)]
 pub enum PeerId {
     NoneSeen,
     Highest(u32),
 }
 
 // An association with one peer. `aged` is the time of the last ageing, and `next` the next own Update ID.
-#[derive(Drop)]
+#[derive(Clone, Copy)]
 pub struct Association {
     pub outbound: u32,
     pub inbound: u32,
@@ -37,14 +37,14 @@ pub struct Association {
 }
 
 // A call is accepted, or refused by the reason that the refusal names.
-#[derive(Drop)]
+#[derive(Clone, Copy)]
 pub enum Outcome {
     Accepted,
     Refused(Refusal),
 }
 
 // The answer to a call, with the association after it.
-#[derive(Drop)]
+#[derive(Clone, Copy)]
 pub struct Answer {
     pub outcome: Outcome,
     pub association: Association,
@@ -61,6 +61,7 @@ fn is_beyond(preferred: Preference) -> bool
 }
 
 // Refusal 0: no call makes such an association.
+#[tactic(auto, unfolding(crate::specs::Form::refusal0))]
 pub fn is_bad_association(a: Association) -> bool
     ensures { result ≡ refusal0 a }
 {
@@ -161,6 +162,7 @@ fn new_association(
 }
 
 // Starts an association at a time, with both SPIs and the peer's address and its lifetime, or refuses with 16.
+#[tactic(auto, unfolding(crate::specs::Start::start_of))]
 pub fn start(time: u64, outbound: u32, inbound: u32, address: Address, lifetime: u32) -> Answer
     ensures { result ≡ start_of time outbound inbound address lifetime }
 {
