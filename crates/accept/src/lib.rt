@@ -22,7 +22,7 @@ use reply_form::NONCE_COUNT;
 use update::{MessageAnswer, MessageOutcome};
 
 // What refusals 7 to 10 make of a Move: one of them stops it, it is Repeated, or they let it pass.
-#[derive(Drop)]
+#[derive(Clone, Copy)]
 pub enum Judgement {
     Stops(Refusal),
     Repeats,

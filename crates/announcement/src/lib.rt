@@ -7,7 +7,7 @@ use address::Address;
 use association::{Association, Outcome};
 
 // An entry of our list: a locator that we announce. `kind` is its locator type.
-#[derive(Drop)]
+#[derive(Clone, Copy)]
 pub struct OwnLocator {
     pub address: Address,
     pub lifetime: u32,
@@ -17,7 +17,7 @@ pub struct OwnLocator {
 }
 
 // The answer to the call: how many bytes were written, and the association after it.
-#[derive(Drop)]
+#[derive(Clone, Copy)]
 pub struct Announcement {
     pub outcome: Outcome,
     pub written: usize,

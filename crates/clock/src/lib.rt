@@ -11,7 +11,7 @@ use association::{Association, Outcome};
 use refusal::Refusal;
 
 // The answer to a tick: how many bytes of checks that are sent again were written, and the association after it.
-#[derive(Drop)]
+#[derive(Clone, Copy)]
 pub struct TickAnswer {
     pub outcome: Outcome,
     pub written: usize,

@@ -29,7 +29,7 @@ pub struct Occurrence {
 
 // What the walk has seen. `unknown` is 1 where a type was seen that refusal 4 refuses, and else 0.
 // Every field is a usize: a survey is carried round the loop by value.
-#[derive(Drop)]
+#[derive(Clone, Copy)]
 pub struct Survey {
     pub unknown: usize,
     pub esp: Occurrence,
@@ -41,7 +41,7 @@ pub struct Survey {
 }
 
 // What one walk over all parameters answers: refusal 3, or what it has seen.
-#[derive(Drop)]
+#[derive(Clone, Copy)]
 pub enum Walked {
     Rejected(Refusal),
     Complete(Survey),

@@ -29,7 +29,7 @@ pub struct ListedLocator {
 }
 
 // What stands at a place of a set: a locator and where the next one starts, or refusal 6.
-#[derive(Drop)]
+#[derive(Clone, Copy)]
 pub enum LocatorStep {
     Listed(ListedLocator, usize),
     Refused(Refusal),

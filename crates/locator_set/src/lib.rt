@@ -18,14 +18,14 @@ pub const SET_LIMIT: usize = 8;
 const BUCKET_COUNT: usize = 64;
 
 // Refusal 6, or how many locators a set holds.
-#[derive(Drop)]
+#[derive(Clone, Copy)]
 pub enum SetVerdict {
     RefusedSet(Refusal),
     Holds(usize),
 }
 
 // What is read of a set. The array stands beside the enum: the locators that the set holds come first, in order, and blanks after them.
-#[derive(Drop)]
+#[derive(Clone, Copy)]
 pub struct LocatorSet {
     pub verdict: SetVerdict,
     pub listed: [ListedLocator; SET_LIMIT],

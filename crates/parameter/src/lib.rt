@@ -40,7 +40,7 @@ pub const NONCE_SIZE: usize = 8;
 const LEAST_SIZE: usize = 8;
 
 // A parameter: its type, its length L, where its L bytes start, and where the next parameter starts.
-#[derive(Drop)]
+#[derive(Clone, Copy)]
 pub struct Parameter {
     pub kind: usize,
     pub len: usize,
@@ -49,7 +49,7 @@ pub struct Parameter {
 }
 
 // What stands at a place of a packet: a parameter, the end, or what refusal 3 refuses.
-#[derive(Drop)]
+#[derive(Clone, Copy)]
 pub enum Step {
     Found(Parameter),
     End,

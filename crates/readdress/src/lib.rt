@@ -6,7 +6,7 @@ use path::Preference;
 use slot::{SLOT_COUNT, Slot};
 
 // The slots, and the slot among them that the peer prefers.
-#[derive(Drop)]
+#[derive(Clone, Copy)]
 pub struct Placement {
     pub slots: [Slot; SLOT_COUNT],
     pub preferred: Preference,

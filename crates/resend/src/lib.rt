@@ -23,7 +23,7 @@ pub const RESEND_SIZE: usize = ECHO_REQUEST_AT + ECHO_REQUEST_SIZE;
 pub const TICK_ROOM: usize = SLOT_COUNT * RESEND_SIZE;
 
 // The slots after the resends, and how many bytes were written.
-#[derive(Drop)]
+#[derive(Clone, Copy)]
 pub struct Resent {
     pub slots: [Slot; SLOT_COUNT],
     pub written: usize,

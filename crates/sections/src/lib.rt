@@ -8,13 +8,13 @@ ghost use Rattle.sections.specs.Records.{size_of, Part, section_step_at, record_
 const COUNT_SIZE: usize = 2;
 
 // A section's bytes: from `start` on, up to and not including `end`.
-#[derive(Drop)]
+#[derive(Clone, Copy)]
 pub struct Section {
     pub start: usize,
     pub end: usize,
 }
 
-#[derive(Drop)]
+#[derive(Clone, Copy)]
 pub struct Record {
     pub numbers: Section,
     pub body: Section,
@@ -22,7 +22,7 @@ pub struct Record {
 }
 
 // What stands at a place of a run of records: a whole record, one that the bytes end within, or the end.
-#[derive(Drop)]
+#[derive(Clone, Copy)]
 pub enum RecordStep {
     Whole(Record),
     Torn,
@@ -30,7 +30,7 @@ pub enum RecordStep {
 }
 
 // A section, or one that the bytes end within.
-#[derive(Drop)]
+#[derive(Clone, Copy)]
 enum SectionStep {
     Present(Section),
     Cut,

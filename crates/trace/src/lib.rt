@@ -32,7 +32,7 @@ const SHORT_LAST: u64 = 65535;
 pub const ROOM_LIMIT: usize = 65535;
 
 // What a start is given.
-#[derive(Drop)]
+#[derive(Clone, Copy)]
 pub struct StartCall {
     pub time: u64,
     pub outbound: u32,
@@ -42,21 +42,21 @@ pub struct StartCall {
 }
 
 // What a message is given besides its packet and its nonces: the host's mark, and the length of the reply buffer.
-#[derive(Drop)]
+#[derive(Clone, Copy)]
 pub struct MessageCall {
     pub authentic: bool,
     pub room: u16,
 }
 
 // What a tick is given: its time, and the length of its buffer.
-#[derive(Drop)]
+#[derive(Clone, Copy)]
 pub struct TickCall {
     pub time: u64,
     pub room: u16,
 }
 
 // What an announcement is given besides its list: the length of its buffer, how many entries the list has, the new inbound SPI and the KEYMAT Index.
-#[derive(Drop)]
+#[derive(Clone, Copy)]
 pub struct AnnounceCall {
     pub room: u16,
     pub count: usize,
@@ -65,7 +65,7 @@ pub struct AnnounceCall {
 }
 
 // The call that a record stands for, or none that its sections fit.
-#[derive(Drop)]
+#[derive(Clone, Copy)]
 pub enum Call {
     Start(StartCall),
     Message(MessageCall),

@@ -7,7 +7,7 @@ use refusal::Refusal;
 
 // What became of a message: an accepted Move, Reply or Check, a Move or a Check that is Repeated (document 01's term: its Update ID equals the highest
 // seen), or a refusal.
-#[derive(Drop)]
+#[derive(Clone, Copy)]
 pub enum MessageOutcome {
     Moved,
     Replied,
@@ -17,7 +17,7 @@ pub enum MessageOutcome {
 }
 
 // The answer to a message: how many bytes of reply were written, how many new checks are among them, the KEYMAT Index, and the association after it.
-#[derive(Drop)]
+#[derive(Clone, Copy)]
 pub struct MessageAnswer {
     pub outcome: MessageOutcome,
     pub written: usize,
