@@ -1,6 +1,6 @@
 -- Worked examples, computed from the definitions.
 use Rattle.std.specs.Prelude.{ℕ, ◌+◌, ◌≡◌, refl, true, false, List, [], ◌∷◌, ◌++◌, map, replicate}
-use denote.Ref.{MutBor, at_last}
+use Rattle.std.specs.Borrow.{Bor}
 use Rattle.octets.specs.ExamplesHex.{hex}
 use Rattle.octets.specs.Records.{records, some}
 use Rattle.parameter.specs.Types.{refused_type, wrong_length}
@@ -74,6 +74,10 @@ unequal : (map (λ (s : List ℕ). place_of (packet 6 s) first)
 unfolding records some refused_type wrong_length falls occurs same_bytes echoes place_of
 unequal = (refl, refl)
 
+-- a reference to where p points, with these bytes there
+abbrev holding : Bor (List ℕ) → List ℕ → Bor (List ℕ)
+holding p bytes = record { ref_ptr = p.ref_ptr; now = bytes }
+
 -- "the packet's own part": whatever memory holds the packet, the part points into it, 44 bytes on, and holds the eight bytes
-own_part : (p r : MutBor (List ℕ)) → Part (at_last p (packet 8 both)) found r → (r.now ≡ first) × (r.ref_ptr.0 ≡ p.ref_ptr.0) × (r.ref_ptr.1 ≡ p.ref_ptr.1 + 44)
+own_part : (p r : Bor (List ℕ)) → Part (holding p (packet 8 both)) found r → (r.now ≡ first) × (r.ref_ptr.0 ≡ p.ref_ptr.0) × (r.ref_ptr.1 ≡ p.ref_ptr.1 + 44)
 own_part p r part = (part.bytes, part.memory, part.offset)
