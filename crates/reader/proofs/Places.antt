@@ -1,13 +1,12 @@
--- The answer of a step at a cursor, by what the step of the walk answers at its place. Assumes nothing.
+-- What a parameter that a step at a cursor answers says of the packet. Assumes nothing.
 use mathlib.Core.Path.{◌≡◌, refl, ap, sym, ◌∙◌}
 use mathlib.Core.Bool.{Bool, true, false, cond}
 use mathlib.Core.List.{List}
 use Prim.Native.Nat.{ℕ, ◌+◌, ◌-◌, ◌<◌, ◌≤◌}
 use native.Mathlib.Omega.{arith}
 use lib.ListN.{length}
-use borrow.Author.Tests.{lt-ltb, le-ltb, ltb-false}
+use borrow.Author.Tests.{ltb-false}
 use Rattle.boolean.proofs.Laws.{or_false_left}
-use Rattle.refusal.specs.declared.Refusal.{Refusal}
 use Rattle.refusal.specs.Table.{refusal}
 use Rattle.parameter.specs.declared.Parameter.{Parameter}
 use Rattle.parameter.specs.declared.Step.{Step}
@@ -19,35 +18,6 @@ use Rattle.reader.specs.declared.Cursor.{Cursor}
 use Rattle.reader.specs.declared.Advanced.{Advanced}
 use Rattle.reader.specs.Readers.{unless_falling, stands_at, place_after, advanced_of}
 
--- the answer, where the walk's step answers r
-abbrev answer_by : Cursor → Step → Advanced
-answer_by c r = record { step = unless_falling c.last r; cursor = place_after c (unless_falling c.last r) }
-
-module _ (s : List ℕ) (c : Cursor) {r : Step} (g : r ≡ step_at s c.at) where
-  by_step : {x : Step} → r ≡ x → answer_by c x ≡ advanced_of s c
-  unfolding advanced_of
-  by_step e = ap (answer_by c) (sym e ∙ g)
-
-  pub stays_at_end : r ≡ End → record { step = End; cursor = c } ≡ advanced_of s c
-  stays_at_end e = by_step e
-
-  pub stays_refused : {why : Refusal} → r ≡ Refused why → record { step = Refused why; cursor = c } ≡ advanced_of s c
-  stays_refused e = by_step e
-
-  pub stays_fallen : {p : Parameter} → r ≡ Found p → p.kind < c.last → record { step = Refused (refusal 3); cursor = c } ≡ advanced_of s c
-  stays_fallen {p} e f = fallen ∙ by_step e
-    where
-      fallen : record { step = Refused (refusal 3); cursor = c } ≡ answer_by c (Found p)
-      fallen = rw (lt-ltb _ _ f)
-
-  pub goes_past : {p : Parameter} → r ≡ Found p → c.last ≤ p.kind
-      → record { step = Found p; cursor = record { at = p.next; last = p.kind } } ≡ advanced_of s c
-  goes_past {p} e f = past ∙ by_step e
-    where
-      past : record { step = Found p; cursor = record { at = p.next; last = p.kind } } ≡ answer_by c (Found p)
-      past = rw (le-ltb _ _ f)
-
--- ---- for a caller that was answered a parameter
 -- a parameter is found where the walk's step finds it
 found_by_step : (last : ℕ) (x : Step) {p : Parameter} → unless_falling last x ≡ Found p → x ≡ Found p
 found_by_step last (Found q) {p} e = go (falls_below last q) e

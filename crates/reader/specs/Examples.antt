@@ -1,6 +1,6 @@
 -- Worked examples, computed from the definitions.
 use Rattle.std.specs.Prelude.{ℕ, ◌+◌, ◌≡◌, refl, List, [], ◌∷◌, ◌++◌, map, replicate}
-use denote.Ref.{MutBor, at_last}
+use Rattle.std.specs.Borrow.{Bor}
 use Rattle.refusal.specs.Table.{refusal}
 use Rattle.octets.specs.Records.{records, some}
 use Rattle.parameter.specs.declared.Step.{Step}
@@ -59,13 +59,17 @@ answered =
     ∷ (Found (record { kind = 0; len = 0; body = 44; next = 48 }) ∷ End ∷ [])
     ∷ []
 
+-- a reference to a packet, in the memory that r points to
+abbrev holding : Bor (List ℕ) → List ℕ → Bor (List ℕ)
+holding r s = record r { now = s }
+
 -- whatever memory holds the packet
-through : (r : MutBor (List ℕ)) → map (λ (s : List ℕ). answers 56 (fresh (at_last r s))) packets ≡ answered
+through : (r : Bor (List ℕ)) → map (λ (s : List ℕ). answers 56 (fresh (holding r s))) packets ≡ answered
 unfolding answers advanced_of wrong_length
 through r = refl
 
 -- stepped once, and at most so many times more
-at_most : (r : MutBor (List ℕ)) → map (λ (steps : ℕ). answers steps (fresh (at_last r (packet (seq ++ ack))))) (0 ∷ 1 ∷ 2 ∷ 3 ∷ [])
+at_most : (r : Bor (List ℕ)) → map (λ (steps : ℕ). answers steps (fresh (holding r (packet (seq ++ ack))))) (0 ∷ 1 ∷ 2 ∷ 3 ∷ [])
     ≡ (four 385 44 ∷ [])
     ∷ (four 385 44 ∷ four 449 52 ∷ [])
     ∷ (four 385 44 ∷ four 449 52 ∷ End ∷ [])
@@ -80,7 +84,7 @@ unfolding answers_to well_formed records some falls wrong_length
 called_for = refl
 
 -- past its last answer a reader stays where it is, and answers the same
-stays : (r : MutBor (List ℕ)) → ((stepped_of (after 9 (fresh (at_last r (packet (seq ++ ack)))))).step ≡ End)
-    × ((stepped_of (after 9 (fresh (at_last r (packet (ack ++ seq)))))).step ≡ Refused (refusal 3))
+stays : (r : Bor (List ℕ)) → ((stepped_of (after 9 (fresh (holding r (packet (seq ++ ack)))))).step ≡ End)
+    × ((stepped_of (after 9 (fresh (holding r (packet (ack ++ seq)))))).step ≡ Refused (refusal 3))
 unfolding after advanced_of wrong_length
 stays r = (refl, refl)

@@ -14,8 +14,7 @@ pub struct Cursor {
     pub last: usize,
 }
 
-// The packet, under its own lifetime, and the place in it. The borrow checker covers no function over such a struct, so each of those below is
-// proved by hand: they take it apart, and `advance` does the work.
+// The packet, under its own lifetime, and the place in it.
 #[derive(Drop)]
 pub struct ParameterReader<'p> {
     pub packet: &'p [u8],
@@ -47,6 +46,7 @@ pub fn start_cursor() -> Cursor
 }
 
 // The work of a step, on the slice and the cursor: the step of the walk, and the test of a falling type.
+#[tactic(auto, using(std::proofs::lemmas::Bool::Decides::nat_tests), unfolding(crate::specs::Readers::advanced_of))]
 fn advance(packet: &[u8], from: Cursor) -> Advanced
     ensures { result ≡ advanced_of packet.now from }
 {
@@ -109,8 +109,7 @@ pub fn into_packet<'p>(reader: ParameterReader<'p>) -> &'p [u8]
     reader.packet
 }
 
-// A step of a reader of the packet that stands at the cursor. Its parameters and its answer hold no reference, so the borrow checker covers its
-// callers: they keep the cursor in place of a reader.
+// A step of a reader of the packet that stands at the cursor, for a caller that keeps the cursor in place of a reader.
 pub fn next_parameter(packet: &[u8], cursor: Cursor) -> Advanced
     ensures { result ≡ advanced_of packet.now cursor }
 {
