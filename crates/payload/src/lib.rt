@@ -10,20 +10,21 @@ use path::Path;
 use refusal::Refusal;
 
 // The packet may go to the slot named, or it may not, by the reason that the refusal names.
-#[derive(Drop)]
+#[derive(Clone, Copy)]
 pub enum SendOutcome {
     Granted(usize),
     Denied(Refusal),
 }
 
 // The answer to a send, with the association after it.
-#[derive(Drop)]
+#[derive(Clone, Copy)]
 pub struct SendAnswer {
     pub outcome: SendOutcome,
     pub association: Association,
 }
 
 // An arrival of a size: refused with 0 or 13, or its size is added to the credit.
+#[tactic(auto, unfolding(crate::specs::Calls::arrival_of))]
 pub fn arrival(a: Association, size: u64) -> Answer
     ensures { result ≡ arrival_of a size }
 {
@@ -78,6 +79,7 @@ fn send_by(a: Association, size: u64, path: Path) -> SendAnswer
 }
 
 // A send of a size: refused with 0, 13, 14 or 15, or granted the slot that is picked.
+#[tactic(auto, unfolding(crate::specs::Calls::send_of))]
 pub fn send(a: Association, size: u64) -> SendAnswer
     ensures { result ≡ send_of a size }
 {
