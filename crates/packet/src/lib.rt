@@ -13,7 +13,7 @@ use locator_set::{SET_LIMIT, SetVerdict};
 use refusal::Refusal;
 
 // An echo response: none, the nonce of one that is 8 bytes long, or one of another length, which matches no nonce.
-#[derive(Drop)]
+#[derive(Clone, Copy)]
 pub enum EchoResponse {
     Absent,
     Nonce(u64),
@@ -21,7 +21,7 @@ pub enum EchoResponse {
 }
 
 // What a Move says: KEYMAT Index, OLD SPI, NEW SPI, Update ID, how many locators it lists, and its echo response.
-#[derive(Drop)]
+#[derive(Clone, Copy)]
 pub struct MoveFields {
     pub keymat: u16,
     pub old: u32,
@@ -32,7 +32,7 @@ pub struct MoveFields {
 }
 
 // What a Check says: its Update ID, and where its opaque bytes stand in the packet and how many they are.
-#[derive(Drop)]
+#[derive(Clone, Copy)]
 pub struct CheckFields {
     pub id: u32,
     pub body: usize,
@@ -100,6 +100,7 @@ fn fields_of(packet: &[u8], seen: Survey, count: usize) -> MoveFields
 }
 
 // A Move, or refusal 6.
+#[tactic(auto, using(crate::proofs::Choices::move_refused))]
 fn read_move(packet: &[u8], seen: Survey) -> Reading
     requires { Parts packet.now seen }
     ensures { result ≡ move_of packet.now seen }
@@ -121,6 +122,7 @@ fn read_move(packet: &[u8], seen: Survey) -> Reading
 }
 
 // The parameters are those of a Move.
+#[tactic(auto, unfolding(crate::specs::Kinds::is_move))]
 fn is_move(seen: Survey) -> bool
     ensures { result ≡ is_move seen }
 {
@@ -140,6 +142,7 @@ fn is_move(seen: Survey) -> bool
 }
 
 // The parameters are those of a Reply.
+#[tactic(auto, unfolding(crate::specs::Kinds::is_reply))]
 fn is_reply(seen: Survey) -> bool
     ensures { result ≡ is_reply seen }
 {
@@ -159,6 +162,7 @@ fn is_reply(seen: Survey) -> bool
 }
 
 // The parameters are those of a Check.
+#[tactic(auto, unfolding(crate::specs::Kinds::is_check))]
 fn is_check(seen: Survey) -> bool
     ensures { result ≡ is_check seen }
 {
@@ -196,6 +200,7 @@ fn read_check(packet: &[u8], seen: Survey) -> Reading
 }
 
 // The packet's own part that holds a Check's opaque bytes, as far as the packet goes.
+#[tactic(auto, using(crate::proofs::Opaque::beyond, crate::proofs::Opaque::cut), unfolding(crate::specs::Readings::opaque_of))]
 pub fn opaque_part<'p>(packet: &'p [u8], c: CheckFields) -> &'p [u8]
     ensures { result.now ≡ opaque_of packet.now c }
 {
@@ -212,6 +217,7 @@ pub fn opaque_part<'p>(packet: &'p [u8], c: CheckFields) -> &'p [u8]
 }
 
 // A Move, a Reply, a Check, or refusal 5.
+#[tactic(auto, unfolding(crate::specs::Readings::kind_of))]
 fn read_kind(packet: &[u8], seen: Survey) -> Reading
     requires { Parts packet.now seen }
     ensures { result ≡ kind_of packet.now seen }
