@@ -40,6 +40,7 @@ fn deprecate_all(slots: [Slot; SLOT_COUNT]) -> [Slot; SLOT_COUNT]
 }
 
 // Step 2: where NEW SPI differs, no locator that is held is bound to it.
+#[tactic(auto, unfolding(readdress::specs::Steps::rebind))]
 pub fn rebind(slots: [Slot; SLOT_COUNT], differs: bool) -> [Slot; SLOT_COUNT]
     ensures { result ≡ steps.rebind differs slots }
 {
@@ -92,6 +93,7 @@ fn renew_slot(slot: Slot, time: u64, listed: [ListedLocator; SET_LIMIT], count: 
 }
 
 // All the slots so.
+#[tactic(auto, unfolding(readdress::specs::Steps::renew_all))]
 fn renew_each(
     slots: [Slot; SLOT_COUNT],
     time: u64,
@@ -151,6 +153,7 @@ fn retire_slot(slot: Slot, listed: [ListedLocator; SET_LIMIT], count: usize) -> 
 }
 
 // Step 4: the locators that are held and not listed turn DEPRECATED.
+#[tactic(auto, unfolding(readdress::specs::Steps::retire_all))]
 pub fn retire_all(
     slots: [Slot; SLOT_COUNT],
     listed: [ListedLocator; SET_LIMIT],
