@@ -7,7 +7,6 @@ use lib.ListN.{length, get_or, drop, length-append, drop_of_length-le}
 use lib.Seq.{drop-cons}
 use native.Mathlib.Numerals.{add-one}
 use native.Mathlib.Omega.{arith}
-use borrow.Author.Tests.{ltb-false}
 use Rattle.check_times.specs.Times.{is_due}
 use Rattle.parameter.specs.Types.{seq}
 use Rattle.writer.specs.Writes.{written_at}
@@ -21,11 +20,9 @@ use Rattle.slot.specs.declared.Locator.{Locator}
 use Rattle.slot.specs.declared.Holding.{Holding}
 use Rattle.slot.specs.declared.Holding.TheVariants.{Empty, Held}
 use Rattle.slot.specs.declared.Slot.{Slot}
-use Rattle.slot.specs.Found.{slot_of, with_status, on_held}
+use Rattle.slot.specs.Found.{with_status, on_held}
 use Rattle.slot.specs.Checks.{resent, resend_status, resend_locator, resend_slot}
-use Rattle.slots.specs.Rules.{resend_all}
-use Rattle.resend.specs.declared.Resent.{Resent}
-use Rattle.resend.specs.Resends.{tick_room, refusal23, status_bytes, held_bytes, slot_bytes, resent_bytes, sent_bytes, sent_slots}
+use Rattle.resend.specs.Resends.{status_bytes, held_bytes, slot_bytes, resent_bytes}
 
 -- ---- one check
 pub resend_written : (inbound id nonce at : ℕ) (b b1 b2 b3 : List ℕ) → at + resend_size ≤ length b → b1 ≡ written_at at (esp_info_bytes inbound) b
@@ -159,21 +156,3 @@ module _ (inbound time : ℕ) where
 
   pub quiet_slot : (s : Slot) (size : ℕ) → size ≡ length (slot_bytes inbound time s) → size ≡ 0 → s ≡ resend_slot time s
   quiet_slot s size p e = quiet s (sym p ∙ e)
-
--- ---- every buffer
--- what is owed of a buffer of any length: the answer, and the buffer after it
-abbrev pub Answered : (inbound time : ℕ) → (ss : List Slot) → (b : List ℕ) → Resent → (after : List ℕ) → Type 0
-Answered inbound time ss b r after =
-    (r ≡ record { slots = sent_slots (length b) time ss; written = length (sent_bytes (length b) inbound time ss) })
-    × (after ≡ overwritten (sent_bytes (length b) inbound time ss) b)
-
-module _ (inbound time : ℕ) (ss : List Slot) (b : List ℕ) (short : Bool) (p : short ≡ refusal23 (length b)) where
-  pub nothing_sent : short ≡ true → Answered inbound time ss b (record { slots = ss; written = 0 }) b
-  nothing_sent e = rw (← p, e) (refl, refl)
-
-  pub all_sent : (r : Resent) (after : List ℕ) → short ≡ false → r ≡ record { slots = resend_all time ss; written = length (resent_bytes inbound time ss) } →
-      after ≡ overwritten (resent_bytes inbound time ss) b → Answered inbound time ss b r after
-  all_sent r after e q t = rw (← p, e) (q, t)
-
-  pub room_for_all : short ≡ false → tick_room ≤ length b
-  room_for_all e = ltb-false (length b) tick_room (sym p ∙ e)
