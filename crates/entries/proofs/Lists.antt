@@ -5,18 +5,13 @@ use mathlib.Core.List.{List}
 use Prim.Native.Nat.{ℕ, zero, suc, ◌+◌, ◌-◌, ◌^◌, ◌<◌, ◌≤◌}
 use lib.Dec.{ltb, leb}
 use native.Mathlib.Omega.{arith}
-use borrow.Author.Tests.{ltb-true, ltb-false, leb-true, le-ltb}
+use borrow.Author.Tests.{ltb-true, ltb-false, leb-true}
 use Rattle.boolean.proofs.Laws.{and_true_left, and_true_right}
 use Rattle.sections.specs.declared.Record.{Record}
 use Rattle.entries.specs.Numbers.{number_of, is_narrow}
 use Rattle.entries.specs.Entries.{entry_count, entry_place, is_entry, are_entries}
 
 -- ---- an entry
--- one that the record does not have
-pub entry_none : (s : List ℕ) (r : Record) (k : ℕ) → entry_count r ≤ k → false ≡ is_entry s r k
-unfolding is_entry
-entry_none s r k h = rw (le-ltb _ _ h)
-
 -- what its tests say: the record has it, and its numbers are of their widths
 pub record Fitting (s : List ℕ) (r : Record) (k : ℕ) : Type 0 where
   pub present : k < entry_count r

@@ -51,6 +51,7 @@ pub fn entry_count(found: Record) -> usize
 }
 
 // Entry k is there, and of its widths.
+#[tactic(auto, unfolding(crate::specs::Entries::is_entry))]
 fn is_entry(s: &[u8], found: Record, k: usize) -> bool
     ensures { result ≡ is_entry s.now found k }
 {
@@ -118,6 +119,7 @@ fn no_entry() -> OwnLocator
 }
 
 // Entry k of a list, or a blank where there is none.
+#[tactic(auto, unfolding(crate::specs::Entries::listed_at))]
 fn listed_at(s: &[u8], found: Record, k: usize) -> OwnLocator
     ensures { result ≡ listed_at s.now found k }
 {
