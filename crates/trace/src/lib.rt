@@ -89,6 +89,7 @@ fn has_sizes(found: Record, numbers: usize, body: usize, nonces: usize) -> bool
     )
 }
 
+#[tactic(auto, unfolding(crate::specs::Calls::is_start))]
 fn is_start(s: &[u8], found: Record) -> bool
     ensures { result ≡ is_start s.now found }
 {
@@ -124,6 +125,7 @@ fn start_of(s: &[u8], found: Record) -> StartCall
     }
 }
 
+#[tactic(auto, unfolding(crate::specs::Calls::is_message))]
 fn is_message(s: &[u8], found: Record) -> bool
     ensures { result ≡ is_message s.now found }
 {
@@ -157,6 +159,7 @@ fn message_of(s: &[u8], found: Record) -> MessageCall
     }
 }
 
+#[tactic(auto, unfolding(crate::specs::Calls::is_tick))]
 fn is_tick(s: &[u8], found: Record) -> bool
     ensures { result ≡ is_tick s.now found }
 {
@@ -182,6 +185,7 @@ fn tick_of(s: &[u8], found: Record) -> TickCall
 }
 
 // The sections have the sizes of an announcement: the first by a quotient, since a product might not fit.
+#[tactic(auto, using(crate::proofs::Widths::list_size))]
 fn has_list_sizes(found: Record) -> bool
     ensures { result ≡ has_list_sizes found }
 {
@@ -196,6 +200,7 @@ fn has_list_sizes(found: Record) -> bool
     )
 }
 
+#[tactic(auto, unfolding(crate::specs::Calls::is_announcement))]
 fn is_announcement(s: &[u8], found: Record) -> bool
     ensures { result ≡ is_announcement s.now found }
 {
@@ -235,6 +240,7 @@ fn announcement_of(s: &[u8], found: Record) -> AnnounceCall
 }
 
 // The call with one argument that a number names.
+#[tactic(auto, unfolding(crate::specs::Calls::plain_of))]
 fn plain_of(which: u64, argument: u64) -> Call
     ensures { result ≡ plain_of which argument }
 {
@@ -246,6 +252,7 @@ fn plain_of(which: u64, argument: u64) -> Call
 }
 
 // The call that a record of s stands for.
+#[tactic(auto, unfolding(crate::specs::Calls::call_of))]
 pub fn call_in(s: &[u8], found: Record) -> Call
     ensures { result ≡ call_of s.now found }
 {
