@@ -1,6 +1,6 @@
 -- Two loops over the slots: one counts the new checks, the other gives them out. Assumes nothing.
 use Prim.Native.Nat.{ℕ, suc, ◌+◌, ◌≤◌, ◌<◌}
-use mathlib.Core.Path.{◌≡◌, refl, sym, ◌∙◌}
+use mathlib.Core.Path.{◌≡◌, sym, ◌∙◌}
 use mathlib.Core.Bool.{Bool, true, false}
 use mathlib.Core.List.{List, [], ◌++◌, append_assoc, append-nil}
 use lib.ListN.{length, get_or, set, take, drop, length-set, drop_of_length-le}
@@ -34,9 +34,6 @@ module _ (listed : List ListedLocator) where
     pub long : length s ≡ 8
     pub total : k + check_count listed (drop i s) ≡ check_count listed xs
 
-  pub counted_none : (xs : List Slot) → length xs ≡ 8 → Counted xs xs 0 0
-  counted_none xs e = record { few = omega arith; within = omega arith; long = e; total = omega arith }
-
   pub counted_new : (xs s : List Slot) (k i : ℕ) (b : Bool) (d : Slot) → Counted xs s k i → i < 8 → b ≡ awaits listed (get_or s i d) → b ≡ true →
       Counted xs s (k + 1) (i + 1)
   counted_new xs s k i b d w h q r =
@@ -68,9 +65,6 @@ module _ (listed : List ListedLocator) where
   pub record Swept (time next : ℕ) (ns : List ℕ) (xs s : List Slot) (k i : ℕ) : Type 0 where
     pub counted : Counted xs s k i
     pub made : checked listed time next ns 0 xs ≡ take i s ++ checked listed time next ns k (drop i s)
-
-  pub swept_none : (time next : ℕ) (ns : List ℕ) (xs : List Slot) → length xs ≡ 8 → Swept time next ns xs xs 0 0
-  swept_none time next ns xs e = record { counted = counted_none xs e; made = refl }
 
   pub swept_new : (time next : ℕ) (ns : List ℕ) (xs s : List Slot) (k i : ℕ) (b : Bool) (y d : Slot) → Swept time next ns xs s k i → i < 8 →
       b ≡ awaits listed (get_or s i d) → b ≡ true → y ≡ with_check time next ns k (get_or s i d) → Swept time next ns xs (set s i y) (k + 1) (i + 1)
