@@ -7,7 +7,7 @@ use Prim.Native.Nat.{ℕ, ◌+◌, ◌≤◌, ◌<◌, zero, suc}
 use lib.Dec.{eqb}
 use lib.ListN.{get_or, length}
 use native.Mathlib.Omega.{arith}
-use Rattle.boolean.proofs.Laws.{eqb_turned, and_true_left, and_true_right, or_false_left, or_false_right, apart}
+use Rattle.boolean.proofs.Laws.{eqb_turned, and_true_left, and_true_right, or_false_left, or_false_right}
 use Rattle.octets.specs.Records as records
 use Rattle.address.proofs.Equal.{same_equal}
 use Rattle.address.specs.Rules.{same_address}
