@@ -37,6 +37,7 @@ fn entry_count(count: usize) -> usize
 }
 
 // An entry with these numbers is refused by itself. That the numbers are of their widths is said here, where it is known.
+#[tactic(auto, unfolding(announcement::specs::Entries::ill_entry))]
 fn is_ill(high: u64, low: u64, lifetime: u32, kind: u8, traffic: u8) -> bool
     ensures { (preferred : Bool) → Judged (entry_of high low lifetime kind traffic preferred) result }
 {
@@ -65,6 +66,7 @@ fn is_ill_entry(entry: OwnLocator) -> bool
 }
 
 // One of the first `count` entries is refused by itself. None is left out, so that all of them are known to be of their widths.
+#[tactic(auto, using(crate::proofs::Turns::judging_none, crate::proofs::Turns::judging_all))]
 fn any_ill(list: [OwnLocator; SET_LIMIT], count: usize) -> bool
     requires { count ≤ set_limit }
     ensures { (result ≡ some ill_entry (take count list)) × AllSized (take count list) }
@@ -81,6 +83,7 @@ fn any_ill(list: [OwnLocator; SET_LIMIT], count: usize) -> bool
 }
 
 // One of the first `count` entries has the address.
+#[tactic(auto, using(crate::proofs::Turns::held_hit, crate::proofs::Turns::held_miss, crate::proofs::Turns::held_none))]
 fn is_held(list: [OwnLocator; SET_LIMIT], count: usize, address: Address) -> bool
     requires { count ≤ set_limit }
     ensures { result ≡ some (λ (e : entries.OwnLocator). same_address address e.address) (take count list) }
@@ -99,6 +102,7 @@ fn is_held(list: [OwnLocator; SET_LIMIT], count: usize, address: Address) -> boo
 }
 
 // One of the first `count` entries has the address of one before it.
+#[tactic(auto, using(crate::proofs::Turns::comparing_none, crate::proofs::Turns::comparing_all))]
 fn any_twice(list: [OwnLocator; SET_LIMIT], count: usize) -> bool
     requires { count ≤ set_limit }
     ensures { result ≡ twice_in [] (take count list) }
@@ -117,6 +121,7 @@ fn any_twice(list: [OwnLocator; SET_LIMIT], count: usize) -> bool
 }
 
 // How many of the first `count` entries have P.
+#[tactic(auto, using(crate::proofs::Turns::counting_none, crate::proofs::Turns::counting_marked, crate::proofs::Turns::counting_plain, crate::proofs::Turns::counting_all))]
 fn count_marks(list: [OwnLocator; SET_LIMIT], count: usize) -> usize
     requires { count ≤ set_limit }
     ensures { result ≡ marks_in 0 (take count list) }
@@ -162,6 +167,7 @@ fn entry_size(kind: u8) -> usize
 }
 
 // The bytes that the set takes, whatever the new inbound SPI.
+#[tactic(auto, using(crate::proofs::Turns::sizing_none))]
 pub fn set_size(list: [OwnLocator; SET_LIMIT], count: usize) -> usize
     ensures { (inbound : ℕ) → result ≡ length (set_body inbound (take count list)) }
 {
