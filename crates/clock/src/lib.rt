@@ -54,6 +54,7 @@ fn advance(a: Association, time: u64, buffer: &mut [u8]) -> TickAnswer
 
 // A tick at a time: the association, the time, and the buffer for the checks that are sent again. Refused with 0, 23 or 12, it leaves the association and the
 // buffer as they were lent.
+#[tactic(auto, unfolding(crate::specs::Ticks::handled))]
 pub fn tick(a: Association, time: u64, buffer: &mut [u8]) -> TickAnswer
     ensures value { result ≡ rules.tick_of a time buffer.old }
     ensures buffer_after { buffer.new ≡ rules.buffer_after a time buffer.old }
