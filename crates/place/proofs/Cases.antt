@@ -5,7 +5,6 @@ use mathlib.Core.Bool.{Bool, true, false, cond, ◌||◌}
 use mathlib.Core.List.{List, [], ◌∷◌}
 use lib.ListN.{length, get_or, take, drop}
 use lib.ListN as lists
-use borrow.Author.Tests.{eq-eqb, ne_eqb}
 use Rattle.octets.specs.Records.{some}
 use Rattle.address.specs.declared.Address.{Address}
 use Rattle.address.specs.Rules.{same_address}
@@ -15,15 +14,12 @@ use Rattle.slot.specs.declared.Holding.TheVariants.{Empty, Held}
 use Rattle.slot.specs.declared.Slot.{Slot}
 use Rattle.slot.specs.Found.{holds, is_deprecated}
 use Rattle.path.specs.declared.Preference.{Preference}
-use Rattle.path.specs.declared.Preference.TheVariants.{NoPreference, Prefers}
 use Rattle.path.specs.declared.Choice.{Choice}
 use Rattle.path.specs.declared.Choice.TheVariants.{Nowhere, Chosen}
 use Rattle.path.specs.Choices.{lowest}
 use Rattle.path.proofs.Cases.{lowest_loop}
 use Rattle.readdress.specs.declared.Placement.{Placement}
 use Rattle.readdress.specs.Steps.{is_listed, is_free, entered, dropped, place_at, place, is_held, place_other, place_all, marked_slot}
-use Rattle.readdress.specs.Moves.{new_preference}
-use Rattle.place.specs.Numbered.{number_of}
 use Rattle.readdress.proofs.Sets.{SetLoop, set_loop, entry_first, entries_spent, entries_end}
 
 -- the loop that looks for the lowest free slot: those from i on decide. The turn at i goes by what slot i holds
@@ -77,15 +73,6 @@ module _ (listed : List ListedLocator) (count j : ℕ) (x : Address) (there abse
 
   pub listed_end : length listed ≡ 8 → 8 ≤ j → absent ≡ whole
   listed_end e h = (listed_loop x there absent).end listed count j whole e h still
-
-pub holds_held_lem : (x : Address) (s : Slot) (l : Locator) (r : Bool) → s.holding ≡ Held l → r ≡ same_address x l.address → r ≡ holds x s
-holds_held_lem x s l r p q = rw (q, p)
-
-pub dropped_same : (n m : ℕ) (p : Preference) → p ≡ Prefers m → n ≡ m → NoPreference ≡ dropped n p
-dropped_same n m p e h = rw (e, eq-eqb n m h)
-
-pub dropped_other : (n m : ℕ) (p : Preference) → p ≡ Prefers m → (n ≡ m → ⊥) → Prefers m ≡ dropped n p
-dropped_other n m p e h = rw (e, ne_eqb n m h)
 
 -- a slot was found
 abbrev is_chosen : Choice → Bool
@@ -160,14 +147,3 @@ pub marked_loop : (ss : List Slot) →
 unfolding marked_slot
 marked_loop ss =
     set_loop (λ es. marked_slot es ss) (λ (e : ListedLocator). e.preferred) (λ (e : ListedLocator). lowest (holds e.address) 0 ss) Nowhere refl (λ e es. refl)
-
-module _ (listed : List ListedLocator) (p : Placement) (o : Choice) where
-  pub prefer_kept : o ≡ marked_slot listed p.slots → o ≡ Nowhere → p.preferred ≡ new_preference listed p
-  prefer_kept q k = rw (← q, k)
-
-  pub prefer_marked : (n : ℕ) → o ≡ marked_slot listed p.slots → o ≡ Chosen n → Prefers n ≡ new_preference listed p
-  prefer_marked n q k = rw (← q, k)
-
--- the slot that is found lies among the slots
-pub found_within : (o : Choice) (n k : ℕ) → number_of o < k → o ≡ Chosen n → n < k
-found_within o n k h e = rw e at h
