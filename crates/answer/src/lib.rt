@@ -41,6 +41,7 @@ fn replied(a: Association, echo: EchoResponse) -> MessageAnswer
 }
 
 // Answers a Reply.
+#[tactic(auto, unfolding(update::specs::Messages::handle_reply))]
 pub fn handle_reply(a: Association, echo: EchoResponse) -> MessageAnswer
     ensures { result ≡ messages.answer_of (messages.handle_reply a echo) }
 {
