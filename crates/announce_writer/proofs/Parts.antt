@@ -1,14 +1,12 @@
 -- An announcement is written part by part: each law takes the buffers that the calls leave one after another. Assumes nothing.
 use Prim.Native.Nat.{ℕ, ◌+◌, ◌-◌, ◌%◌, ◌≤◌, ◌<◌}
 use mathlib.Core.Path.{◌≡◌, refl, sym, ap, ◌∙◌}
-use mathlib.Core.Bool.{false, cond}
+use mathlib.Core.Bool.{false}
 use mathlib.Core.List.{List, [], ◌∷◌, ◌++◌, append_assoc, append-nil}
-use lib.Dec.{eqb}
 use lib.ListN.{length, take, drop, set, get_or, length-append, length-replicate, length-take}
-use lib.Seq.{take-suc, take-add, take_all}
+use lib.Seq.{take-suc, take-add}
 use native.Mathlib.Numerals.{add-one}
 use native.Mathlib.Omega.{arith}
-use borrow.Author.Tests.{eq-eqb, ne_eqb}
 use Rattle.octets.specs.Written.{bytes_of}
 use Rattle.octets.proofs.Sizes.{bytes_length}
 use Rattle.address.specs.declared.Address.{Address}
@@ -26,14 +24,6 @@ use Rattle.announcement.specs.Written.{units_of, spi_bytes, address_bytes, entry
 use Rattle.announcement.specs.Entries.{entry_size, set_size}
 use Rattle.announcement.proofs.Sizes.{spi_length, entry_length, set_length, set_bound}
 use Rattle.announce_writer.specs.Parts.{entry_head, padding}
-
--- what goes by a locator type
-module _ {A : Type 0} (kind : ℕ) (x y : A) (type : ℕ) where
-  pub of_type : kind ≡ type → x ≡ cond (eqb kind type) x y
-  of_type e = rw (eq-eqb kind type e)
-
-  pub of_other : (kind ≡ type → ⊥) → y ≡ cond (eqb kind type) x y
-  of_other e = rw (ne_eqb kind type e)
 
 -- ---- bytes at places one after another
 -- three parts
@@ -142,10 +132,6 @@ entries_none spi at es b = written_none at b
 pub place_first : (at : ℕ) (es : List OwnLocator) → at ≡ at + set_size (take 0 es)
 unfolding set_size
 place_first at es = omega arith
-
--- past the last entry that there is, no more are taken
-pub taken_all : (es : List OwnLocator) (k count : ℕ) → length es ≤ k → k ≤ count → take k es ≡ take count es
-taken_all es k count h l = take_all k es h ∙ sym (take_all count es (omega arith))
 
 -- ---- LOCATOR_SET
 -- its entries take few bytes

@@ -50,6 +50,7 @@ fn put_entry_head(buffer: &mut [u8], at: usize, e: OwnLocator)
 }
 
 // Writes the SPI of an entry of type 1, and nothing for another.
+#[tactic(auto, using(writer::proofs::Writes::written_none))]
 fn put_spi(buffer: &mut [u8], at: usize, kind: u8, spi: u32)
     ensures { buffer.new ≡ written_at at (spi_bytes kind spi) buffer.old }
 {
@@ -108,6 +109,7 @@ fn put_entries(
 }
 
 // Writes the padding after a set of `size` bytes, which are whole units: four bytes or none.
+#[tactic(auto, using(writer::proofs::Writes::written_none, crate::proofs::Parts::four_padding, crate::proofs::Parts::no_padding))]
 fn put_padding(buffer: &mut [u8], at: usize, size: usize)
     requires { size % unit ≡ 0 }
     ensures { buffer.new ≡ written_at at (padding size) buffer.old }
