@@ -1,10 +1,10 @@
 -- Worked examples, computed from the definitions: the words of order 4 about checks, and its part of the claim.
-use Rattle.std.specs.Prelude.{ℕ, ◌≤◌, ◌<◌, ◌≡◌, refl, true, false, List, [], ◌∷◌, ◌++◌, map, replicate}
+use Rattle.std.specs.Prelude.{ℕ, ◌≡◌, refl, true, false, List, [], ◌∷◌, ◌++◌, map, replicate}
 use Rattle.std.proofs.Math.Option.{none, some}
 use Rattle.std.proofs.Common.{arith}
 use Rattle.refusal.specs.Table.{refusal}
 use Rattle.octets.specs.ExamplesHex.{hex}
-use Rattle.history.specs.Calls.{Call, arrival, send, tick, Answered, refused_by, done, repeated, returned, lent_after, Step, step_of, history, after}
+use Rattle.history.specs.Calls.{Call, arrival, send, tick, Answered, refused_by, done, repeated, returned, lent_after, step_of, history, after}
 use Rattle.history.specs.Issued.{checks_in, announced_in, ids_in, next_id, Takes, Issues, ticked_at, time_or, last_tick, is_outstanding}
 use Rattle.history.specs.Demand.{next, Demand3}
 use Rattle.history.specs.Examples.{malformed, brings, tick_at, first, second, third, rebinding, answering, moved, begun}
