@@ -110,6 +110,7 @@ fn responded(a: Association, id: u32, opaque: &[u8], buffer: &mut [u8]) -> Messa
 }
 
 // Answers a Check with this Update ID and these opaque bytes.
+#[tactic(auto, unfolding(update::specs::Messages::handle_check))]
 pub fn handle_check(a: Association, id: u32, opaque: &[u8], buffer: &mut [u8]) -> MessageAnswer
     ensures value { result ≡ messages.answer_of (roomy (length buffer.old) a (messages.handle_check a id opaque.now)) }
     ensures buffer_after { buffer.new ≡ overwritten (roomy (length buffer.old) a (messages.handle_check a id opaque.now)).reply buffer.old }
