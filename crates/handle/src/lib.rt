@@ -18,6 +18,7 @@ use reply_form::NONCE_COUNT;
 use update::MessageAnswer;
 
 // Tries refusals 7 to 10 in their order, and whether the Move is Repeated. A test is made where those before it have passed.
+#[tactic(auto, unfolding(update::specs::Messages::handle_move))]
 fn judge_move(
     a: Association,
     m: MoveFields,
