@@ -37,6 +37,7 @@ fn announcement_size(list: [OwnLocator; SET_LIMIT], count: usize) -> usize
 }
 
 // The association after an accepted call: the new SPI is the inbound one, and an own Update ID is used up.
+#[tactic(auto, unfolding(announcement::specs::Announcements::after_announcement))]
 fn after_announcement(a: Association, inbound: u32) -> Association
     requires { a.next < id_limit }
     ensures { result ≡ rules.after_announcement a inbound }
@@ -94,6 +95,7 @@ fn announced(
 
 // Announces the first `count` entries of the list: the association, the list, the new inbound SPI, the KEYMAT Index, and the buffer for the announcement.
 // A refusal leaves the association and the buffer as they were lent.
+#[tactic(auto, unfolding(announcement::specs::Announcements::handled))]
 pub fn announce(
     a: Association,
     list: [OwnLocator; SET_LIMIT],
