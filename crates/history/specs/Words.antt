@@ -106,10 +106,10 @@ taken x found (announce list count inbound keymat buffer) r = none
 
 -- "while that Move and every call since left it UNVERIFIED"
 abbrev pub while_unverified : (left : Option Status) → Option ℕ → Option ℕ
-while_unverified none nonce = none
-while_unverified (some (Unverified k)) nonce = nonce
-while_unverified (some Active) nonce = none
-while_unverified (some Deprecated) nonce = none
+while_unverified none o = none
+while_unverified (some (Unverified k)) o = o
+while_unverified (some Active) o = none
+while_unverified (some Deprecated) o = none
 
 -- the nonce outstanding after a history, where this one was before it
 unfoldable pub outstanding_from : Address → (before : Option ℕ) → List Step → Option ℕ
