@@ -14,6 +14,7 @@ use update::MessageAnswer;
 
 // Handles a message: the association, the packet's bytes, whether the host found it authentic, eight new nonces, and the buffer for the reply.
 // A refusal leaves the association and the buffer as they were lent.
+#[tactic(auto, unfolding(update::specs::Messages::handled))]
 pub fn receive(
     a: Association,
     packet: &[u8],
