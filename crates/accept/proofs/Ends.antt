@@ -1,20 +1,26 @@
--- How a Move ends: Repeated, or with its reply written. Assumes nothing.
+-- How a Move ends: Repeated, refused by 11, or with its reply written. Assumes nothing.
 use Prim.Native.Nat.{ℕ, ◌≤◌}
-use mathlib.Core.Path.{◌≡◌, ◌∙◌}
+use mathlib.Core.Path.{◌≡◌, refl, ap, ◌∙◌}
+use mathlib.Core.Bool.{true, false}
 use mathlib.Core.List.{List}
 use lib.ListN.{length}
 use native.Mathlib.Omega.{arith}
 use Rattle.packet.specs.declared.MoveFields.{MoveFields}
 use Rattle.locator.specs.declared.ListedLocator.{ListedLocator}
 use Rattle.slot.specs.Found.{slot_count}
+use Rattle.readdress.specs.declared.Placement.{Placement}
+use Rattle.readdress.specs.Checks.{check_count}
+use Rattle.readdress.specs.Moves.{new_checks}
 use Rattle.reply_form.specs.Replies.{ack_bytes, move_bytes, fitted, overwritten}
 use Rattle.reply_form.proofs.Sizes.{ack_length, move_length}
 use Rattle.association.specs.declared.Association.{Association}
-use Rattle.update.specs.Refusals.{reply_room}
+use Rattle.update.specs.Refusals.{reply_room, refusal11}
 use Rattle.update.specs.declared.MessageOutcome.TheVariants.{Moved, Repeated}
 use Rattle.update.specs.declared.MessageAnswer.{MessageAnswer}
-use Rattle.update.specs.Messages.{checks_of, after_move, repeated, moved}
+use Rattle.update.specs.Messages.{placement, checks_of, after_move, refused, repeated, moved, accepted, answer_of}
 use Rattle.update.proofs.Buffers.{move_fits}
+use Rattle.accept.specs.declared.Judgement.{Judgement}
+use Rattle.accept.specs.Judged.{judged}
 use Rattle.accept.proofs.Written.{Answers, written_whole}
 
 -- ---- a repeat
@@ -39,3 +45,21 @@ module _ (a : Association) (m : MoveFields) (set : List ListedLocator) (nonces b
       let z = move_fits k s in
       let w = written_whole (move_bytes a.inbound m.id a.next nonces k) b after n (omega arith) e f in
       (u ∙ rw (w.0, g, c), w.1 ∙ rw c)
+
+  -- the checks that are counted are the Move's
+  pub checks_counted : (p : Placement) (k : ℕ) → p ≡ placement a m set → k ≡ check_count set p.slots → k ≡ checks_of a m set
+  checks_counted p k e f = f ∙ ap (new_checks set) e
+
+  -- refusal 11 decides, by the checks of the Move
+  module _ (k : ℕ) (c : k ≡ checks_of a m set) where
+    pub ids_refused : (r : MessageAnswer) → refusal11 a.next k ≡ true → r ≡ answer_of (refused 11 a) → Answers (accepted a m set nonces) b r b
+    ids_refused r p e = let q : refusal11 a.next (checks_of a m set) ≡ true = rw (← c) p in rw q (e, refl)
+
+    pub move_goes : (r : MessageAnswer) (after : List ℕ) → refusal11 a.next k ≡ false → Answers (moved a m set nonces) b r after →
+        Answers (accepted a m set nonces) b r after
+    move_goes r after p e = let q : refusal11 a.next (checks_of a m set) ≡ false = rw (← c) p in rw q e
+
+-- ---- by how the Move is judged
+pub judged_so : (a : Association) (m : MoveFields) (set : List ListedLocator) (nonces b : List ℕ) (j k : Judgement) (r : MessageAnswer) (after : List ℕ) → j ≡ k →
+    Answers (judged a m set nonces k) b r after → Answers (judged a m set nonces j) b r after
+judged_so a m set nonces b j k r after e f = rw e f

@@ -1,8 +1,8 @@
 -- Steps 1 to 5, as the code takes them, are the definition's. Assumes nothing.
-use Prim.Native.Nat.{◌<◌}
+use Prim.Native.Nat.{◌≤◌, ◌<◌}
 use mathlib.Core.Path.{◌≡◌}
 use mathlib.Core.List.{List}
-use borrow.Author.Tests.{lt-ltb, lt-leb}
+use borrow.Author.Tests.{lt-ltb, le-leb, lt-leb}
 use Rattle.credit.specs.Clock.{time_limit}
 use Rattle.packet.specs.declared.MoveFields.{MoveFields}
 use Rattle.locator.specs.declared.ListedLocator.{ListedLocator}
@@ -18,7 +18,11 @@ use Rattle.update.specs.Messages.{differs, placement}
 use Rattle.steps.specs.Timely.{placement_at}
 
 module _ (a : Association) (m : MoveFields) (set : List ListedLocator) where
-  -- below the limit the answer is the definition's
+  -- past the limit no step is taken
+  pub none_taken : time_limit ≤ a.time → record { slots = a.slots; preferred = a.preferred } ≡ placement_at a m set
+  none_taken h = rw (le-leb time_limit a.time h)
+
+  -- below it the answer is the definition's
   pub timely : a.time < time_limit → placement_at a m set ≡ placement a m set
   timely h = rw (lt-leb time_limit a.time h)
 
