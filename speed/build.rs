@@ -1,5 +1,5 @@
 //! Links the proved reader where the feature `ours` asks for it. The library is
-//! looked for in NISGROVE_LIB, or else where `rt staticlib exported` writes it.
+//! looked for in NISGROVE_LIB, or else where `measure` puts it.
 
 use std::env;
 use std::path::{Path, PathBuf};

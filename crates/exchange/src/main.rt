@@ -3,15 +3,15 @@
 // - "Peer ID 7, own ID 3, inbound SPI 0x1001, nonce 0102030405060708, one check, whole reply in hex: ..";
 // - "Start at ID none, Move 0 accepted; Move 0 again Repeated; after Move 5, Move 4 gives 7".
 // The file `stdout` was written from document 01, and the check compares the two. Depends on message, association and the crates of their types,
-// on writer to build packets, and on the kit's io and libc to print.
+// and on writer to build packets.
 #![tactic(auto)]
 
 use address::Address;
 use association::{Answer, Association, Outcome};
 use judge::REPLY_ROOM;
-use libc::STDOUT_FILENO;
 use refusal::Refusal;
 use reply_form::NONCE_COUNT;
+use std::io;
 use std::num::wrapping_add_u64;
 use update::{MessageAnswer, MessageOutcome};
 use writer::{put_u32, put_u64};
@@ -75,112 +75,106 @@ fn nonces_from(first: u64) -> [u64; NONCE_COUNT] {
     ]
 }
 
-// A byte as the wider number that is printed.
-fn widened(byte: u8) -> u64 {
-    byte as u64
-}
-
 // Prints so many bytes from a buffer's start on, two hex digits each; nothing where the buffer holds fewer.
-fn print_bytes(buffer: &[u8], count: usize) {
+fn print_bytes(rt: &impl Print, buffer: &[u8], count: usize) -> io::Result<()> {
     if buffer.len() < count {
-        return;
+        return Ok(());
     }
-    let mut i = 0;
-    while i < count {
-        io::print_hex(STDOUT_FILENO, widened(buffer[i]), 2);
-        i += 1;
+    for byte in &buffer[..count] {
+        print!(rt; "{byte:02x}")?;
     }
+    Ok(())
 }
 
 // Prints the end of a refused call's line.
-fn print_refusal(why: Refusal) {
-    io::write_all(STDOUT_FILENO, b" refused ");
-    io::print_decimal(STDOUT_FILENO, widened(refusal::number(why)));
-    io::write_all(STDOUT_FILENO, b"\n");
+fn print_refusal(rt: &impl Print, why: Refusal) -> io::Result<()> {
+    println!(rt; " refused {}", refusal::number(why))
 }
 
 // Prints the end of an answered message's line: what the answer tells, and the reply's bytes where there are any.
-fn print_reply(answer: MessageAnswer, buffer: &[u8]) {
+fn print_reply(rt: &impl Print, answer: MessageAnswer, buffer: &[u8]) -> io::Result<()> {
     let written = answer.written;
-    io::write_all(STDOUT_FILENO, b" reply ");
-    io::print_decimal(STDOUT_FILENO, written as u64);
-    io::write_all(STDOUT_FILENO, b" checks ");
-    io::print_decimal(STDOUT_FILENO, answer.checks as u64);
-    io::write_all(STDOUT_FILENO, b" keymat ");
-    io::print_decimal(STDOUT_FILENO, answer.keymat as u64);
+    print!(rt;
+        " reply {written} checks {} keymat {}",
+        answer.checks, answer.keymat
+    )?;
     if 0 < written {
-        io::write_all(STDOUT_FILENO, b" ");
-        print_bytes(buffer, written);
+        print!(rt; " ")?;
+        print_bytes(rt, buffer, written)?;
     }
-    io::write_all(STDOUT_FILENO, b"\n");
+    println!(rt; "")
 }
 
-fn print_message(answer: MessageAnswer, buffer: &[u8]) {
-    io::write_all(STDOUT_FILENO, b"message");
-    let outcome = answer.outcome;
-    match outcome {
+fn print_message(rt: &impl Print, answer: MessageAnswer, buffer: &[u8]) -> io::Result<()> {
+    print!(rt; "message")?;
+    match answer.outcome {
         MessageOutcome::Moved | MessageOutcome::Replied | MessageOutcome::Responded => {
-            io::write_all(STDOUT_FILENO, b" accepted");
-            print_reply(answer, buffer);
+            print!(rt; " accepted")?;
+            print_reply(rt, answer, buffer)
         }
         MessageOutcome::Repeated => {
-            io::write_all(STDOUT_FILENO, b" repeated");
-            print_reply(answer, buffer);
+            print!(rt; " repeated")?;
+            print_reply(rt, answer, buffer)
         }
-        MessageOutcome::Declined(why) => print_refusal(why),
+        MessageOutcome::Declined(why) => print_refusal(rt, why),
     }
 }
 
-fn print_start(answer: Answer) {
-    io::write_all(STDOUT_FILENO, b"start");
-    let outcome = answer.outcome;
-    match outcome {
-        Outcome::Accepted => {
-            io::write_all(STDOUT_FILENO, b" accepted\n");
-        }
-        Outcome::Refused(why) => print_refusal(why),
+fn print_start(rt: &impl Print, answer: Answer) -> io::Result<()> {
+    print!(rt; "start")?;
+    match answer.outcome {
+        Outcome::Accepted => println!(rt; " accepted"),
+        Outcome::Refused(why) => print_refusal(rt, why),
     }
 }
 
 // Starts an association at time 100 with the address 2001:db8::1, and prints the answer.
-fn start() -> Association {
+fn start(rt: &impl Print) -> io::Result<Association> {
     let address = Address {
         high: PREFIX,
         low: 1,
     };
     let answer = association::start(100, OUTBOUND_SPI, INBOUND_SPI, address, LIFETIME);
-    print_start(answer);
-    answer.association
+    print_start(rt, answer)?;
+    Ok(answer.association)
 }
 
 // Hands in an authentic Move with an Update ID that lists 2001:db8::low and offers eight nonces from the first on, and prints the answer.
-fn receive_move(a: Association, id: u32, low: u64, nonce: u64) -> Association {
+fn receive_move(
+    rt: &impl Print,
+    a: Association,
+    id: u32,
+    low: u64,
+    nonce: u64,
+) -> io::Result<Association> {
     let mut packet = [0u8; MOVE_SIZE];
     make_move(&mut packet, id, low);
     let mut buffer = [0u8; REPLY_ROOM];
     let answer = message::receive(a, &packet, true, nonces_from(nonce), &mut buffer);
-    print_message(answer, &buffer);
-    answer.association
+    print_message(rt, answer, &buffer)?;
+    Ok(answer.association)
 }
 
 // Moves 4, 5 and 6 use up the own Update IDs 0, 1 and 2, so that the check for Move 7 has own ID 3.
-fn run_whole_reply() {
-    let mut a = start();
-    a = receive_move(a, 4, 2, 0x1111_1111_1111_1100);
-    a = receive_move(a, 5, 3, 0x2222_2222_2222_2200);
-    a = receive_move(a, 6, 4, 0x3333_3333_3333_3300);
-    receive_move(a, 7, 5, 0x0102_0304_0506_0708);
+fn run_whole_reply(rt: &impl Print) -> io::Result<()> {
+    let mut a = start(rt)?;
+    a = receive_move(rt, a, 4, 2, 0x1111_1111_1111_1100)?;
+    a = receive_move(rt, a, 5, 3, 0x2222_2222_2222_2200)?;
+    a = receive_move(rt, a, 6, 4, 0x3333_3333_3333_3300)?;
+    receive_move(rt, a, 7, 5, 0x0102_0304_0506_0708)?;
+    Ok(())
 }
 
-fn run_update_ids() {
-    let mut a = start();
-    a = receive_move(a, 0, 2, 0x1111_1111_1111_1100);
-    a = receive_move(a, 0, 2, 0x2222_2222_2222_2200);
-    a = receive_move(a, 5, 3, 0x3333_3333_3333_3300);
-    receive_move(a, 4, 4, 0x4444_4444_4444_4400);
+fn run_update_ids(rt: &impl Print) -> io::Result<()> {
+    let mut a = start(rt)?;
+    a = receive_move(rt, a, 0, 2, 0x1111_1111_1111_1100)?;
+    a = receive_move(rt, a, 0, 2, 0x2222_2222_2222_2200)?;
+    a = receive_move(rt, a, 5, 3, 0x3333_3333_3333_3300)?;
+    receive_move(rt, a, 4, 4, 0x4444_4444_4444_4400)?;
+    Ok(())
 }
 
-fn main() {
-    run_whole_reply();
-    run_update_ids();
+fn main(rt: HostRuntime) -> io::Result<()> {
+    run_whole_reply(&rt)?;
+    run_update_ids(&rt)
 }

@@ -1,8 +1,6 @@
 -- Laws of numbers as one number, and of what is read of a packet as one. Assumes nothing.
-use Rattle.std.proofs.Common.{◌≡◌, ℕ, ◌+◌, ◌*◌, ◌%◌, ◌^◌, ◌<◌, ◌≤◌, Bool, true, false, List, [], ◌∷◌, ◌++◌, length, get_or, take, drop, sym, refl, ap, ◌∙◌, arith}
+use Rattle.std.proofs.Common.{◌≡◌, ℕ, ◌+◌, ◌*◌, ◌%◌, ◌^◌, ◌<◌, List, [], ◌∷◌, ◌++◌, take, sym, refl, ap, ◌∙◌, arith}
 use native.Mathlib.Nat.{mod-add-mod, add-mod-mod}
-use Rattle.locator.specs.declared.ListedLocator.{ListedLocator}
-use Rattle.readdress.proofs.Sets.{entry_first, entries_spent, entries_end}
 use Rattle.refusal.specs.declared.Refusal.{Refusal}
 use Rattle.refusal.specs.Table.{number_of}
 use Rattle.packet.specs.declared.EchoResponse.{EchoResponse}
@@ -13,7 +11,7 @@ use Rattle.packet.specs.declared.Message.TheVariants.{Refused, Move, Reply, Peer
 use Rattle.packet.specs.declared.Reading.{Reading}
 use Rattle.packet.specs.Readings.{reading_of}
 use Rattle.exported.specs.Folds.{mixed, folded_from, folded}
-use Rattle.exported.specs.Readings.{reply_kind, refused_kind, bit_of, echo_numbers, locator_numbers, listed_numbers, move_numbers, check_numbers, message_numbers, reading_numbers}
+use Rattle.exported.specs.Readings.{reply_kind, refused_kind, echo_numbers, listed_numbers, move_numbers, check_numbers, message_numbers, reading_numbers}
 
 -- four sums that wrap make five times h, and x
 pub sums_mix : (h x twice four five r : ℕ) → twice ≡ (h + h) % 2 ^ 64 → four ≡ (twice + twice) % 2 ^ 64 → five ≡ (four + h) % 2 ^ 64 → r ≡ (five + x) % 2 ^ 64 →
@@ -35,30 +33,10 @@ mix_next x p q = p ∙ ap (λ (n : ℕ). mixed n x) q
 pub fold_next : {h g : ℕ} (xs : List ℕ) {r : ℕ} → r ≡ folded_from h xs → h ≡ g → r ≡ folded_from g xs
 fold_next xs p q = p ∙ ap (λ (n : ℕ). folded_from n xs) q
 
--- a bit as a number
-pub bit_small : (b : Bool) → bit_of b < 2
-bit_small true = omega arith
-bit_small false = omega arith
-
 -- numbers after numbers
 pub fold_after : (h : ℕ) (xs ys : List ℕ) → folded_from h (xs ++ ys) ≡ folded_from (folded_from h xs) ys
 fold_after h [] ys = refl
 fold_after h (x ∷ xs) ys = fold_after (mixed h x) xs ys
-
--- a loop over the first `count` locators of an array: `whole` is its answer, and h what it has at i
-module _ (listed : List ListedLocator) (count i h whole : ℕ) (left : whole ≡ folded_from h (listed_numbers (drop i (take count listed)))) where
-  pub listed_next : (d : ListedLocator) (r : ℕ) → length listed ≡ 8 → i < 8 → i < count → r ≡ folded_from h (locator_numbers (get_or listed i d)) →
-      whole ≡ folded_from r (listed_numbers (drop (i + 1) (take count listed)))
-  listed_next d r e p q f =
-      left
-      ∙ ap (λ (ls : List ListedLocator). folded_from h (listed_numbers ls)) (entry_first listed count i d e p q)
-      ∙ ap (λ (n : ℕ). folded_from n (listed_numbers (drop (i + 1) (take count listed)))) (sym f)
-
-  pub listed_spent : count ≤ i → h ≡ whole
-  listed_spent p = sym (left ∙ ap (λ (ls : List ListedLocator). folded_from h (listed_numbers ls)) (entries_spent listed count i p))
-
-  pub listed_end : length listed ≡ 8 → 8 ≤ i → h ≡ whole
-  listed_end e p = sym (left ∙ ap (λ (ls : List ListedLocator). folded_from h (listed_numbers ls)) (entries_end listed count i e p))
 
 -- what is read of a packet, by what the reading r says
 module _ (packet : List ℕ) {r : Reading} (read : r ≡ reading_of packet) where

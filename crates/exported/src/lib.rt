@@ -1,5 +1,5 @@
-// What a program in C or Rust links to measure the core by: the whole answer to a packet, and to calls one after another, each as one number, so that
-// nothing of it can be left out by a compiler. Depends on packet, message, payload, clock, association and the crates of their types.
+// What the core is measured by: the whole answer to a packet, and to calls one after another, each as one number, so that nothing of it can be left out by a
+// compiler. Crate exported_c hands both to programs in C and Rust. Depends on packet, message, payload, clock, association and the crates of their types.
 #![tactic(auto)]
 
 ghost use Rattle.std.specs.Prelude.{◌≡◌, true, take};
@@ -112,8 +112,7 @@ fn mix_check(c: CheckFields) -> u64
 }
 
 // All that is read of a packet, as one number.
-#[unsafe(no_mangle)]
-pub extern "C" fn nisgrove_read(packet: &[u8]) -> u64
+pub fn nisgrove_read(packet: &[u8]) -> u64
     ensures { result ≡ folded (reading_numbers (reading_of packet.now)) }
 {
     let reading = packet::read_packet(packet);
@@ -246,6 +245,7 @@ fn tick(a: Association, buffer: &mut [u8]) -> Made
 }
 
 // The call that a byte names. The second message's association is not kept.
+#[tactic(auto, unfolding(crate::specs::Calls::made_of, crate::specs::Calls::buffer_of))]
 fn make(a: Association, call: u8, first: &[u8], second: &[u8], buffer: &mut [u8]) -> Made
     ensures value { result ≡ made_of first.now second.now a buffer.old call }
     ensures buffer_after { buffer.new ≡ buffer_of first.now second.now a buffer.old call }
@@ -296,13 +296,7 @@ fn make(a: Association, call: u8, first: &[u8], second: &[u8], buffer: &mut [u8]
 
 // Calls one after another on a new association, as one number with the credit and the time that are left at the end. Each byte of `calls` names one: 0 an
 // arrival, 1 a send, 2 a tick a second later, 3 the message `first`, 4 the message `second`, whose association is not kept, and 5 the test of refusal 0.
-#[unsafe(no_mangle)]
-pub extern "C" fn nisgrove_calls(
-    calls: &[u8],
-    first: &[u8],
-    second: &[u8],
-    buffer: &mut [u8],
-) -> u64
+pub fn nisgrove_calls(calls: &[u8], first: &[u8], second: &[u8], buffer: &mut [u8]) -> u64
     ensures value { result ≡ run_number (calls_run calls.now first.now second.now buffer.old) }
     ensures buffer_after { buffer.new ≡ (calls_run calls.now first.now second.now buffer.old).buffer }
 {

@@ -7,7 +7,7 @@
 //         UPDATE(ACK, ECHO_RESPONSE)                  -->
 //
 // Before the answer the peer host may not send payload to the new address: it has no credit. After it, it may. HMAC and signature stay with the host. Depends
-// on announce, message, payload, association and the crates of their types, on writer and text to build packets, and on the kit's io and libc to print.
+// on announce, message, payload, association and the crates of their types, and on writer and text to build packets.
 #![tactic(auto)]
 
 use address::Address;
@@ -15,10 +15,10 @@ use announcement::OwnLocator;
 use association::Association;
 use frame::HEADER_SIZE;
 use judge::REPLY_ROOM;
-use libc::STDOUT_FILENO;
 use locator_set::SET_LIMIT;
 use payload::SendOutcome;
 use reply_form::NONCE_COUNT;
+use std::io;
 use writer::put_u32;
 
 // The most that a packet takes here: a header and the longest reply.
@@ -47,35 +47,24 @@ struct Sides {
     peer: Association,
 }
 
-fn say(text: &[u8]) {
-    io::write_all(STDOUT_FILENO, text);
-}
-
-// A byte as the wider number that is printed.
-fn widened(byte: u8) -> u64 {
-    byte as u64
-}
-
 // Prints so many bytes of a packet, two hex digits each; nothing where it holds fewer, or more than a line does.
-fn say_packet(packet: &[u8], size: usize) {
+fn say_packet(rt: &impl Print, packet: &[u8], size: usize) -> io::Result<()> {
     if packet.len() < size {
-        return;
+        return Ok(());
     }
     let mut line = [0u8; LINE_ROOM];
     let end = text::put_hex(&mut line, 0, &packet[0..size]);
     if LINE_ROOM < end {
-        return;
+        return Ok(());
     }
-    say(&line[0..end]);
+    rt.write_all(&line[0..end])
 }
 
 // Prints who sends what.
-fn say_sent(who: &[u8], what: &[u8], packet: &[u8], size: usize) {
-    say(who);
-    say(what);
-    say(b"\n    ");
-    say_packet(packet, size);
-    say(b"\n");
+fn say_sent(rt: &impl Print, who: &str, what: &str, packet: &[u8], size: usize) -> io::Result<()> {
+    print!(rt; "{who}{what}\n    ")?;
+    say_packet(rt, packet, size)?;
+    println!(rt; "")
 }
 
 // The address 2001:db8::low.
@@ -136,66 +125,71 @@ fn answer_into(a: Association, packet: &mut [u8], size: usize) -> Sent {
 }
 
 // Prints whether a payload of 1,000 bytes may go out, and to which slot.
-fn say_payload(who: &[u8], a: Association) {
-    say(who);
+fn say_payload(rt: &impl Print, who: &str, a: Association) -> io::Result<()> {
     let answer = payload::send(a, 1000);
-    let outcome = answer.outcome;
-    match outcome {
+    match answer.outcome {
         SendOutcome::Granted(slot) => {
-            say(b" sends payload to the address in slot ");
-            io::print_decimal(STDOUT_FILENO, slot as u64);
+            println!(rt; "{who} sends payload to the address in slot {slot}")
         }
         SendOutcome::Denied(why) => {
-            say(b" sends no payload: refused ");
-            io::print_decimal(STDOUT_FILENO, widened(refusal::number(why)));
+            println!(rt; "{who} sends no payload: refused {}", refusal::number(why))
         }
     }
-    say(b"\n");
 }
 
 // The mobile host moves to 2001:db8::low, and keeps its inbound SPI.
 fn change(
+    rt: &impl Print,
     mobile: Association,
     peer: Association,
     low: u64,
     inbound: u32,
-    who: &[u8],
-    whom: &[u8],
-) -> Sides {
+    who: &str,
+    whom: &str,
+) -> io::Result<Sides> {
     let mut packet = [0u8; PACKET_ROOM];
     let announced = announce_into(mobile, low, inbound, &mut packet);
     say_sent(
+        rt,
         who,
-        b": UPDATE(ESP_INFO, LOCATOR_SET, SEQ)",
+        ": UPDATE(ESP_INFO, LOCATOR_SET, SEQ)",
         &packet,
         announced.size,
-    );
+    )?;
     let checking = answer_into(peer, &mut packet, announced.size);
     say_sent(
+        rt,
         whom,
-        b": UPDATE(ESP_INFO, SEQ, ACK, ECHO_REQUEST)",
+        ": UPDATE(ESP_INFO, SEQ, ACK, ECHO_REQUEST)",
         &packet,
         checking.size,
-    );
+    )?;
     let unverified = checking.association;
-    say_payload(whom, unverified);
+    say_payload(rt, whom, unverified)?;
     let waiting = announced.association;
     let answered = answer_into(waiting, &mut packet, checking.size);
-    say_sent(who, b": UPDATE(ACK, ECHO_RESPONSE)", &packet, answered.size);
+    say_sent(
+        rt,
+        who,
+        ": UPDATE(ACK, ECHO_RESPONSE)",
+        &packet,
+        answered.size,
+    )?;
     let verified = answer_into(unverified, &mut packet, answered.size);
     let mobile = answered.association;
     let peer = verified.association;
-    say_payload(whom, peer);
-    Sides { mobile, peer }
+    say_payload(rt, whom, peer)?;
+    Ok(Sides { mobile, peer })
 }
 
-fn main() {
+fn main(rt: HostRuntime) -> io::Result<()> {
     let first = association::start(100, 0x2001, 0x1001, address_of(2), 600);
     let one = first.association;
     let second = association::start(100, 0x1001, 0x2001, address_of(1), 600);
     let other = second.association;
-    let moved = change(one, other, 3, 0x1001, b"one", b"other");
+    let moved = change(&rt, one, other, 3, 0x1001, "one", "other")?;
     let one = moved.mobile;
     let other = moved.peer;
-    change(other, one, 4, 0x2001, b"other", b"one");
+    change(&rt, other, one, 4, 0x2001, "other", "one")?;
+    Ok(())
 }

@@ -1,17 +1,16 @@
 // A host that makes the six calls, one after another, on one association. README.md shows this file whole.
-// Depends on association, message, payload, clock, announce and the crates of their types, on writer to build a packet, and on the kit's io and libc to
-// print.
+// Depends on association, message, payload, clock, announce and the crates of their types, and on writer to build a packet.
 #![tactic(auto)]
 
 use address::Address;
 use announcement::OwnLocator;
 use association::{Answer, Association, Outcome};
 use judge::REPLY_ROOM;
-use libc::STDOUT_FILENO;
 use locator_set::SET_LIMIT;
 use payload::SendOutcome;
 use refusal::Refusal;
 use resend::TICK_ROOM;
+use std::io;
 use update::MessageOutcome;
 use writer::{put_u32, put_u64};
 
@@ -44,52 +43,45 @@ fn put_update(packet: &mut [u8]) {
     put_u32(packet, 92, 7);
 }
 
-fn say(text: &[u8]) {
-    io::write_all(STDOUT_FILENO, text);
-}
-
-fn say_number(text: &[u8], n: u64) {
-    say(text);
-    io::print_decimal(STDOUT_FILENO, n);
-    say(b"\n");
-}
-
 // A refused call gives its reason and leaves the association as it was.
-fn say_refused(why: Refusal) {
-    say_number(b"refused ", refusal::number(why) as u64);
+fn say_refused(rt: &impl Print, why: Refusal) -> io::Result<()> {
+    println!(rt; "refused {}", refusal::number(why))
 }
 
 // What a start and an arrival answer. The host keeps the association for the next call.
-fn kept(answer: Answer) -> Association {
-    let outcome = answer.outcome;
-    match outcome {
-        Outcome::Accepted => say(b"accepted\n"),
-        Outcome::Refused(why) => say_refused(why),
+fn kept(rt: &impl Print, answer: Answer) -> io::Result<Association> {
+    match answer.outcome {
+        Outcome::Accepted => println!(rt; "accepted")?,
+        Outcome::Refused(why) => say_refused(rt, why)?,
     }
-    answer.association
+    Ok(answer.association)
 }
 
 // A message: the packet, the host's word that HMAC, signature and checksum hold, eight random nonces, and a buffer for the reply.
-fn handle_update(a: Association, packet: &[u8], authentic: bool) -> Association {
+fn handle_update(
+    rt: &impl Print,
+    a: Association,
+    packet: &[u8],
+    authentic: bool,
+) -> io::Result<Association> {
     let nonces = [11, 12, 13, 14, 15, 16, 17, 18];
     let mut reply = [0u8; REPLY_ROOM];
     let answer = message::receive(a, packet, authentic, nonces, &mut reply);
-    let outcome = answer.outcome;
-    match outcome {
-        MessageOutcome::Declined(why) => say_refused(why),
+    match answer.outcome {
+        MessageOutcome::Declined(why) => say_refused(rt, why)?,
         MessageOutcome::Moved
         | MessageOutcome::Replied
         | MessageOutcome::Responded
         | MessageOutcome::Repeated => {
-            say_number(b"bytes of the reply to send back: ", answer.written as u64);
+            println!(rt; "bytes of the reply to send back: {}", answer.written)?;
         }
     }
-    answer.association
+    Ok(answer.association)
 }
 
 // Our own addresses, when they change: a list of which the first entries count, the new inbound SPI, a KEYMAT Index, and a buffer for the parameters of the
 // UPDATE to send. 256 bytes hold every announcement.
-fn announce(a: Association) -> Association {
+fn announce(rt: &impl Print, a: Association) -> io::Result<Association> {
     let address = Address {
         high: 0x2001_0db8_0000_0000,
         low: 9,
@@ -104,49 +96,47 @@ fn announce(a: Association) -> Association {
     let list = [entry; SET_LIMIT];
     let mut parameters = [0u8; 256];
     let answer = announce::announce(a, list, 1, 0x1002, 0, &mut parameters);
-    let outcome = answer.outcome;
-    match outcome {
-        Outcome::Accepted => say_number(b"bytes of parameters to send: ", answer.written as u64),
-        Outcome::Refused(why) => say_refused(why),
+    match answer.outcome {
+        Outcome::Accepted => println!(rt; "bytes of parameters to send: {}", answer.written)?,
+        Outcome::Refused(why) => say_refused(rt, why)?,
     }
-    answer.association
+    Ok(answer.association)
 }
 
 // The time, every second or so: a buffer for the checks that are sent again, 40 bytes each, which the host sends as packets of their own.
-fn tick(a: Association, time: u64) -> Association {
+fn tick(rt: &impl Print, a: Association, time: u64) -> io::Result<Association> {
     let mut checks = [0u8; TICK_ROOM];
     let answer = clock::tick(a, time, &mut checks);
-    let outcome = answer.outcome;
-    match outcome {
-        Outcome::Accepted => say_number(b"bytes of checks to send again: ", answer.written as u64),
-        Outcome::Refused(why) => say_refused(why),
+    match answer.outcome {
+        Outcome::Accepted => println!(rt; "bytes of checks to send again: {}", answer.written)?,
+        Outcome::Refused(why) => say_refused(rt, why)?,
     }
-    answer.association
+    Ok(answer.association)
 }
 
 // A payload of a size: the slot whose address it may go to.
-fn send(a: Association, size: u64) -> Association {
+fn send(rt: &impl Print, a: Association, size: u64) -> io::Result<Association> {
     let answer = payload::send(a, size);
-    let outcome = answer.outcome;
-    match outcome {
-        SendOutcome::Granted(slot) => say_number(b"send to the address in slot ", slot as u64),
-        SendOutcome::Denied(why) => say_refused(why),
+    match answer.outcome {
+        SendOutcome::Granted(slot) => println!(rt; "send to the address in slot {slot}")?,
+        SendOutcome::Denied(why) => say_refused(rt, why)?,
     }
-    answer.association
+    Ok(answer.association)
 }
 
-fn main() {
+fn main(rt: HostRuntime) -> io::Result<()> {
     let peer = Address {
         high: 0x2001_0db8_0000_0000,
         low: 1,
     };
-    let mut a = kept(association::start(100, 0x2001, 0x1001, peer, 60));
-    a = kept(payload::arrival(a, 1500));
+    let mut a = kept(&rt, association::start(100, 0x2001, 0x1001, peer, 60))?;
+    a = kept(&rt, payload::arrival(a, 1500))?;
     let mut packet = [0u8; UPDATE_SIZE];
     put_update(&mut packet);
-    a = handle_update(a, &packet, true);
-    a = send(a, 1000);
-    a = send(a, 1000);
-    a = tick(a, 105);
-    announce(a);
+    a = handle_update(&rt, a, &packet, true)?;
+    a = send(&rt, a, 1000)?;
+    a = send(&rt, a, 1000)?;
+    a = tick(&rt, a, 105)?;
+    announce(&rt, a)?;
+    Ok(())
 }

@@ -3,13 +3,17 @@
 // base packet, how many of its bytes are taken, an offset, and a mask for the byte at the offset; it stands for the packet that those bytes make. For each
 // base packet a line has the answers to the packets of its edits as one number, and the last line has the number of all edits. A file of another form ends
 // in the line `malformed`.
-// Depends on exported, on octets, and on the kit's io and libc to read and print.
+// Depends on exported and on octets.
 #![tactic(auto)]
 
-ghost use Rattle.std.specs.Prelude.{◌+◌, ◌≤◌, length};
+ghost use Rattle.std.specs.Prelude.{◌+◌, ◌≤◌, length, IfOk};
 ghost use Rattle.readings.specs.Bases.{Within, Found};
 
-use libc::{STDIN_FILENO, STDOUT_FILENO};
+use std::io;
+use std::io::Read;
+
+// The most bytes of a file.
+const FILE_ROOM: usize = 65536;
 
 // The most base packets, and the longest.
 const BASE_LIMIT: usize = 60;
@@ -22,7 +26,7 @@ const LENGTH_SIZE: usize = 2;
 const EDIT_SIZE: usize = 6;
 
 // A base packet: where it starts in the file and where it ends.
-#[derive(Drop)]
+#[derive(Clone, Copy)]
 struct Base {
     start: usize,
     end: usize,
@@ -43,7 +47,7 @@ enum EditsPlace {
 }
 
 // The index of a base packet, how many of its bytes are taken, and which of them is changed by which mask.
-#[derive(Drop)]
+#[derive(Clone, Copy)]
 struct Edit {
     index: usize,
     taken: usize,
@@ -153,65 +157,75 @@ fn fold_edits(s: &mut [u8], base: Base, index: usize, from: usize) -> Run
     Run { place: at, number }
 }
 
-fn print_line(number: u64) {
-    io::print_decimal(STDOUT_FILENO, number);
-    io::write_all(STDOUT_FILENO, b"\n");
+fn print_line(rt: &impl Print, number: u64) -> io::Result<()> {
+    println!(rt; "{number}")
 }
 
-fn print_malformed() {
-    io::write_all(STDOUT_FILENO, b"malformed\n");
+fn print_malformed(rt: &impl Print) -> io::Result<()> {
+    println!(rt; "malformed")
 }
 
 // Prints a line for each base packet, and answers where the edits end that are theirs in order.
-fn print_bases(s: &mut [u8], count: usize, from: usize) -> usize
-    ensures { from ≤ result }
+fn print_bases(rt: &impl Print, s: &mut [u8], count: usize, from: usize) -> io::Result<usize>
+    ensures { IfOk result (λ place. from ≤ place) }
 {
     let mut place = from;
     let mut at: usize = 1;
     let mut k: usize = 0;
     while k < count {
         let BaseStep::Whole(base) = base_at(s, at) else {
-            return place;
+            return Ok(place);
         };
         let run = fold_edits(s, base, k, place);
-        print_line(run.number);
+        print_line(rt, run.number)?;
         place = run.place;
         at = base.end;
         k += 1;
     }
-    place
+    Ok(place)
 }
 
 // Prints the lines of a file. Edits that are left after the last base packet's are torn, out of order, or of no base packet or more bytes than it has.
-fn print_file(s: &mut [u8]) {
+fn print_file(rt: &impl Print, s: &mut [u8]) -> io::Result<()> {
     if s.len() == 0 {
-        print_malformed();
-        return;
+        return print_malformed(rt);
     }
     let count = octets::byte(s[0]);
     if BASE_LIMIT < count {
-        print_malformed();
-        return;
+        return print_malformed(rt);
     }
     let EditsPlace::Begin(from) = edits_after(s, count) else {
-        print_malformed();
-        return;
+        return print_malformed(rt);
     };
-    let end = print_bases(s, count, from);
+    let end = print_bases(rt, s, count, from)?;
     if end < s.len() {
-        print_malformed();
-        return;
+        return print_malformed(rt);
     }
-    print_line(((end - from) / EDIT_SIZE) as u64);
+    print_line(rt, ((end - from) / EDIT_SIZE) as u64)
 }
 
-fn main() {
-    let mut held = io::large_buffer();
-    let count = io::read_full(STDIN_FILENO, &mut held);
-    let mut more = [0u8; 1];
-    if 0 < io::read_full(STDIN_FILENO, &mut more) {
-        print_malformed();
-        return;
+// Reads until the buffer is full or the input ends, and answers how many bytes it read.
+fn read_full(input: &mut impl Read, buffer: &mut [u8]) -> io::Result<usize>
+    ensures { IfOk result (λ count. count ≤ length buffer.new) }
+{
+    let mut filled = 0;
+    while filled < buffer.len() {
+        let count = input.read(&mut buffer[filled..])?;
+        if count == 0 {
+            break;
+        }
+        filled += count;
     }
-    print_file(&mut held[..count]);
+    Ok(filled)
+}
+
+fn main(rt: HostRuntime) -> io::Result<()> {
+    let mut input = rt.stdin();
+    let mut held = [0u8; FILE_ROOM];
+    let count = read_full(&mut input, &mut held)?;
+    let mut more = [0u8; 1];
+    if 0 < input.read(&mut more)? {
+        return print_malformed(&rt);
+    }
+    print_file(&rt, &mut held[..count])
 }

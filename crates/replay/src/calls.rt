@@ -14,7 +14,7 @@ use trace::{AnnounceCall, Call, MessageCall, ROOM_LIMIT, StartCall, TickCall};
 use update::MessageAnswer;
 
 // Where the next text goes, and the association after the calls so far, if one was started.
-#[derive(Drop)]
+#[derive(Clone, Copy)]
 pub(crate) struct Run {
     pub used: usize,
     pub is_started: bool,

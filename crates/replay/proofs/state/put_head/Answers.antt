@@ -1,0 +1,8 @@
+-- `replay::state::put_head` meets its contract: its texts one after another. Assumes nothing.
+use Rattle.lines.proofs.Joined.{after}
+use Rattle.lines.specs.State.{head_text}
+use Rattle.replay.proofs.state.put_head.Goals as goal
+
+pub returns : goal.returns
+unfolding head_text
+returns c = after c.put_numbers-at.ensures (after c.put_peer-at.ensures (after c.put_field-at.ensures (after c.put_preference-at.ensures c.put_word.ensures)))
