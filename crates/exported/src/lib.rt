@@ -37,6 +37,7 @@ const TRAFFIC_WEIGHT: u64 = 512;
 const TYPE_WEIGHT: u64 = 2;
 
 // A running number after one more: five times it and the new one, wrapped.
+#[tactic(auto, using(crate::proofs::Folds::sums_mix))]
 pub fn mix(h: u64, x: u64) -> u64
     ensures { result ≡ mixed h x }
 {
