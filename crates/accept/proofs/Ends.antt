@@ -15,18 +15,20 @@ use Rattle.reply_form.specs.Replies.{ack_bytes, move_bytes, fitted, overwritten}
 use Rattle.reply_form.proofs.Sizes.{ack_length, move_length}
 use Rattle.association.specs.declared.Association.{Association}
 use Rattle.update.specs.Refusals.{reply_room, refusal11}
-use Rattle.update.specs.declared.MessageOutcome.TheVariants.{Moved, Repeated}
 use Rattle.update.specs.declared.MessageAnswer.{MessageAnswer}
 use Rattle.update.specs.Messages.{placement, checks_of, after_move, refused, repeated, moved, accepted, answer_of}
 use Rattle.update.proofs.Buffers.{move_fits}
 use Rattle.accept.specs.declared.Judgement.{Judgement}
 use Rattle.accept.specs.Judged.{judged}
 use Rattle.accept.proofs.Written.{Answers, written_whole}
+use Rattle.std.specs.Prelude.{Ok, Result}
+use Rattle.refusal.specs.declared.Refusal.{Refusal}
+use Rattle.update.specs.declared.Received.TheVariants.{Moved, Repeated}
 
 -- ---- a repeat
 pub repeat_written : (a : Association) (id : ℕ) (b after : List ℕ) (n : ℕ) (r : MessageAnswer) → reply_room ≤ length b →
     n ≡ length (fitted (length b) (ack_bytes id)) → after ≡ overwritten (fitted (length b) (ack_bytes id)) b →
-    r ≡ record { outcome = Repeated; written = n; checks = 0; keymat = 0; association = a } → Answers (repeated a id) b r after
+    r ≡ record { outcome = (Ok Repeated); written = n; checks = 0; keymat = 0; association = a } → Answers (repeated a id) b r after
 repeat_written a id b after n r h e f g =
     let l = ack_length id in
     let w = written_whole (ack_bytes id) b after n (omega arith) e f in
@@ -39,7 +41,7 @@ module _ (a : Association) (m : MoveFields) (set : List ListedLocator) (nonces b
       reply_room ≤ length b → k ≤ slot_count → k ≡ checks_of a m set → left ≡ after_move a m set nonces →
       n ≡ length (fitted (length b) (move_bytes a.inbound m.id a.next nonces k)) →
       after ≡ overwritten (fitted (length b) (move_bytes a.inbound m.id a.next nonces k)) b →
-      r ≡ record { outcome = Moved; written = n; checks = k; keymat = m.keymat; association = left } → Answers (moved a m set nonces) b r after
+      r ≡ record { outcome = (Ok Moved); written = n; checks = k; keymat = m.keymat; association = left } → Answers (moved a m set nonces) b r after
   move_written after n k left r h s c g e f u =
       let l = move_length a.inbound m.id a.next nonces k in
       let z = move_fits k s in
@@ -60,6 +62,6 @@ module _ (a : Association) (m : MoveFields) (set : List ListedLocator) (nonces b
     move_goes r after p e = let q : refusal11 a.next (checks_of a m set) ≡ false = rw (← c) p in rw q e
 
 -- ---- by how the Move is judged
-pub judged_so : (a : Association) (m : MoveFields) (set : List ListedLocator) (nonces b : List ℕ) (j k : Judgement) (r : MessageAnswer) (after : List ℕ) → j ≡ k →
+pub judged_so : (a : Association) (m : MoveFields) (set : List ListedLocator) (nonces b : List ℕ) (j k : Result Judgement Refusal) (r : MessageAnswer) (after : List ℕ) → j ≡ k →
     Answers (judged a m set nonces k) b r after → Answers (judged a m set nonces j) b r after
 judged_so a m set nonces b j k r after e f = rw e f

@@ -1,11 +1,11 @@
-// Addresses, and which of them are legal. Depends on octets and boolean.
+// Addresses, and which of them are legal. Depends on octets.
 #![tactic(auto)]
 
 ghost use Rattle.std.specs.Prelude.{◌≡◌};
 ghost use Rattle.address.specs.Rules.{address_at, same_address, legal};
 
 // An address's 16 bytes, as two big-endian numbers of eight bytes.
-#[derive(Clone, Copy)]
+#[derive(Clone, Copy, PartialEq, Eq)]
 pub struct Address {
     pub high: u64,
     pub low: u64,
@@ -36,28 +36,24 @@ pub fn address_at(s: &[u8], at: usize) -> Address
     }
 }
 
-// Two addresses are the same 16 bytes.
+// Two addresses are the same 16 bytes. Code says `a == b`; the function stays for the pages and the edits that name it.
 pub fn same(a: Address, b: Address) -> bool
     ensures { result ≡ same_address a b }
 {
-    boolean::both(a.high == b.high, a.low == b.low)
+    a == b
 }
 
 // An address that may be announced. A high half other than 0 decides alone; among the others an IPv4 address before 224.0.0.0 is found first.
+// It is no `match` on both halves: that was tried, and took an instruction more for an IPv6 address and three more for an IPv4 one.
 #[tactic(auto, unfolding(crate::specs::Rules::legal))]
 pub fn is_legal(a: Address) -> bool
     ensures { result ≡ legal a }
 {
-    let high = a.high;
-    if high != 0 {
-        return high < IPV6_MULTICAST;
+    if a.high != 0 {
+        a.high < IPV6_MULTICAST
+    } else if a.low < IPV4_MULTICAST {
+        a.low != 0 && a.low != IPV4_UNSPECIFIED
+    } else {
+        IPV4_RESERVED <= a.low && a.low != IPV4_BROADCAST
     }
-    let low = a.low;
-    if low < IPV4_MULTICAST {
-        if IPV4_UNSPECIFIED < low {
-            return true;
-        }
-        return boolean::both(low != 0, low != IPV4_UNSPECIFIED);
-    }
-    boolean::both(IPV4_RESERVED <= low, low != IPV4_BROADCAST)
 }

@@ -2,11 +2,11 @@
 use Prim.Native.Nat.{ℕ, zero, suc, ◌+◌, ◌^◌, ◌<◌, ◌≤◌}
 use mathlib.Core.Path.{◌≡◌, refl, ap, ◌∙◌}
 use mathlib.Core.Bool.{true, false}
-use mathlib.Core.Option.{some}
 use mathlib.Core.List.{List, [], ◌∷◌}
 use lib.ListN.{length, get_or, replicate, length-replicate, length-map}
 use native.Mathlib.Omega.{arith}
 use borrow.Author.Tests.{ltb-false}
+use Rattle.std.specs.Prelude.{Ok, Some}
 use Rattle.octets.specs.Written.{bytes_of}
 use Rattle.address.specs.declared.Address.{Address}
 use Rattle.parameter.specs.Types.{echo_request_signed, echo_response_signed, nonce_size}
@@ -24,9 +24,9 @@ use Rattle.announcement.specs.Listed.{as_listed}
 use Rattle.announcement.proofs.Ends.{Passed}
 use Rattle.announcement.proofs.Kept.{announcement_keeps}
 use Rattle.readdress.specs.Checks.{new_check, checked_by}
-use Rattle.update.specs.declared.MessageOutcome.TheVariants.{Replied}
 use Rattle.update.specs.Messages.{Handled, checks_of, moved, responded, replied}
 use Rattle.update.proofs.Kept.{message_keeps}
+use Rattle.update.specs.declared.Received.TheVariants.{Replied}
 use Rattle.round_trip.specs.Each.{Each}
 use Rattle.round_trip.proofs.Accepted.{is_passed, few_entries}
 use Rattle.agreement.specs.Sent.{packet_of, Below}
@@ -50,8 +50,8 @@ check_heard inbound peer id nonce l e w d c unrefused0 small below =
 -- an answer turns the address ACTIVE
 answer_heard : (id : ℕ) (check : Check) (l : List ℕ) → l ≡ response_bytes id (bytes_of nonce_size check.nonce) → (v : Delivery)
     → Delivered v l echo_response_signed
-    → (d : Association) → refusal0 d ≡ false → (x : Address) → status_in x d.slots ≡ some (Unverified check) → check.nonce < 2 ^ 64
-    → ((hears d l v).outcome ≡ Replied) × (status_in x (hears d l v).left.slots ≡ some Active)
+    → (d : Association) → refusal0 d ≡ false → (x : Address) → status_in x d.slots ≡ Some (Unverified check) → check.nonce < 2 ^ 64
+    → ((hears d l v).outcome ≡ Ok Replied) × (status_in x (hears d l v).left.slots ≡ Some Active)
 answer_heard id check l e v given d unrefused0 x unverified small =
     let there : Delivered v (response_bytes id (bytes_of nonce_size check.nonce)) echo_response_signed = rw e at given in
     let q = answer_verifies id check v.header v.tail there.behind d v.nonces v.room x
@@ -122,7 +122,7 @@ module _ (e : Meeting) (h : Meets e) where
         ap (λ (y : Handled). check_in y.reply g.k) is_moved
         ∙ checks_stand_in_order e.peers.inbound e.ours.next e.peers.next nonces (checks_of e.peers m set) g.k g.within
 
-    has_check : status_in x (reception e).left.slots ≡ some (checked_by e.peers.time e.peers.next nonces g.k)
+    has_check : status_in x (reception e).left.slots ≡ Some (checked_by e.peers.time e.peers.next nonces g.k)
     has_check = ap (λ (y : Handled). status_in x y.left.slots) is_moved ∙ g.status
 
     response_is : (w : Delivery) → Delivered w (check e g.k) echo_request_signed → Below (announcement e).left.peer (check_id e g.k)

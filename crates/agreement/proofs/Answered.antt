@@ -1,33 +1,27 @@
 -- "what we answer, behind a header, is a Reply to it that turns that address ACTIVE". Assumes nothing.
 use Prim.Native.Nat.{ℕ, ◌^◌, ◌<◌}
 use mathlib.Core.Path.{◌≡◌, refl, sym, ap, ◌∙◌}
-use mathlib.Core.Bool.{Bool, true, false, cond, ◌||◌}
-use mathlib.Core.Option.{none, some}
+use mathlib.Core.Bool.{true}
 use mathlib.Core.List.{List, [], ◌∷◌, ◌++◌, append_assoc}
 use lib.ListN.{length}
 use native.Mathlib.Omega.{arith}
 use borrow.Author.Tests.{eq-eqb}
-use Rattle.boolean.proofs.Laws.{or_true}
+use Rattle.std.specs.Prelude.{Ok, Result, Some}
 use Rattle.octets.specs.Numbers.{number_at}
-use Rattle.octets.specs.Records as records
 use Rattle.octets.specs.Written.{bytes_of}
+use Rattle.refusal.specs.declared.Refusal.{Refusal}
 use Rattle.address.specs.declared.Address.{Address}
-use Rattle.address.specs.Rules.{same_address}
 use Rattle.parameter.specs.Types.{ack, echo_response_signed, nonce_size, refused_type, wrong_length}
 use Rattle.frame.specs.Header.{header_size, header_holds}
 use Rattle.frame.specs.Survey.{occurs}
-use Rattle.locator_set.specs.Sets.{blanks}
 use Rattle.slot.specs.declared.Check.{Check}
-use Rattle.slot.specs.declared.Holding.{Holding}
-use Rattle.slot.specs.declared.Holding.TheVariants.{Empty, Held}
-use Rattle.slot.specs.declared.Locator.{Locator}
 use Rattle.slot.specs.declared.Slot.{Slot}
 use Rattle.slot.specs.declared.Status.TheVariants.{Unverified, Active}
-use Rattle.slot.specs.Found.{status_held, or_else, status_in, status_of, is_nonce, found_as, held_as}
+use Rattle.slot.specs.Found.{status_in}
 use Rattle.slots.specs.Rules.{is_outstanding}
 use Rattle.packet.specs.declared.EchoResponse.TheVariants.{Nonce}
+use Rattle.packet.specs.declared.Message.{Message}
 use Rattle.packet.specs.declared.Message.TheVariants.{Reply}
-use Rattle.packet.specs.declared.Reading.{Reading}
 use Rattle.packet.specs.Kinds.{is_move, is_reply}
 use Rattle.packet.specs.Readings.{reading_of}
 use Rattle.packet.proofs.Choices.{kind_reply}
@@ -57,7 +51,7 @@ module _ (id nonce : ℕ) where
 
   module _ (tail : List WireParameter) (follow : Tail echo_response_signed tail) where
     reply_formed : Formed 0 (two ++ tail)
-    unfolding Formed wrong_length refused_type records.some bytes_of
+    unfolding Formed wrong_length refused_type bytes_of
     reply_formed = (
       passes 0 ack (bytes_of 4 id) (omega arith) (omega arith) (omega arith) refl refl,
       (
@@ -77,36 +71,23 @@ module _ (id nonce : ℕ) where
       unfolding EachStands bytes_of
       nonce_read h = field_read packet 48 (written echo_response_signed (bytes_of nonce_size nonce)) stand.1.0 nonce_size nonce [] [] refl h
 
-      reply_read : nonce < 2 ^ 64 → header_holds packet ≡ true → reading_of packet ≡ record { message = Reply (Nonce nonce); listed = blanks }
+      reply_read : nonce < 2 ^ 64 → header_holds packet ≡ true → reading_of packet ≡ Ok (Reply (Nonce nonce))
       unfolding is_move is_reply occurs placed bytes_of
       reply_read h rule =
           kind_read header two tail echo_response_signed long follow reply_formed rule
           ∙ sym (kind_reply packet (seen_of two) refl refl)
-          ∙ ap (λ (n : ℕ). record { message = Reply (Nonce n); listed = blanks }) (nonce_read h)
+          ∙ ap (λ (n : ℕ). Ok (Reply (Nonce n))) (nonce_read h)
 
 -- ---- the address that it verifies
 -- the nonce of an address that is UNVERIFIED is outstanding
-nonce_outstanding : (x : Address) (check : Check) (ss : List Slot) → status_in x ss ≡ some (Unverified check) → is_outstanding ss check.nonce ≡ true
-unfolding status_in records.some
+nonce_outstanding : (x : Address) (check : Check) (ss : List Slot) → status_in x ss ≡ Some (Unverified check) → is_outstanding ss check.nonce ≡ true
+unfolding status_in
 nonce_outstanding x check [] h = cc
-nonce_outstanding x check (s ∷ ss) h = held (nonce_outstanding x check ss) s.holding h
-  where
-    more : Bool
-    more = records.some (held_as (is_nonce check.nonce)) ss
+nonce_outstanding x check (s ∷ ss) h = let rest = nonce_outstanding x check ss in grind (arith, rest)
 
-    same : (status_in x ss ≡ some (Unverified check) → more ≡ true) → (l : Locator) (b : Bool)
-        → or_else (cond b (some l.status) none) (status_in x ss) ≡ some (Unverified check) → (is_nonce check.nonce l.status || more) ≡ true
-    same rest l true h = let e : l.status ≡ Unverified check = cc in rw (e, eq-eqb check.nonce check.nonce refl)
-    same rest l false h = or_true (is_nonce check.nonce l.status) more (rest h)
-
-    held : (status_in x ss ≡ some (Unverified check) → more ≡ true) → (h : Holding) → or_else (status_held x h) (status_in x ss) ≡ some (Unverified check)
-        → (found_as (is_nonce check.nonce) (status_of h) || more) ≡ true
-    held rest Empty h = rest h
-    held rest (Held l) h = same rest l (same_address x l.address) h
-
-module _ (x : Address) (check : Check) (ss : List Slot) (h : status_in x ss ≡ some (Unverified check)) where
+module _ (x : Address) (check : Check) (ss : List Slot) (h : status_in x ss ≡ Some (Unverified check)) where
   -- the echo of its nonce makes it ACTIVE
-  turned_active : status_in x (verify_all (Nonce check.nonce) ss) ≡ some Active
+  turned_active : status_in x (verify_all (Nonce check.nonce) ss) ≡ Some Active
   turned_active = verified_status x (Nonce check.nonce) ss ∙ rw (h, eq-eqb check.nonce check.nonce refl)
 
 -- a Reply that echoes an outstanding nonce is accepted
@@ -123,7 +104,7 @@ answer_verifies id check header tail sent d nonces room x h =
     let rule = sym (ap header_holds parts) ∙ sent.rule in
     let read = reply_read id nonce tail sent.follow header sent.long h.sized rule in (
       heard d packet nonces room h.listens
-          ∙ ap (λ (r : Reading). handle_reading d packet r nonces) (ap reading_of parts ∙ read)
+          ∙ ap (λ (r : Result Message Refusal). handle_reading d packet r nonces) (ap reading_of parts ∙ read)
           ∙ reply_accepted d nonce (nonce_outstanding x check d.slots h.unverified),
       turned_active x check d.slots h.unverified,
     )

@@ -6,17 +6,17 @@ use mathlib.Core.List.{List, [], ◌∷◌, ◌++◌, append_assoc}
 use lib.ListN.{length, get_or, take, drop}
 use lib.Seq.{take_at, drop-append-add}
 use native.Mathlib.Omega.{arith}
+use Rattle.std.specs.Prelude.{Ok, Result}
+use Rattle.refusal.specs.declared.Refusal.{Refusal}
 use Rattle.octets.specs.Numbers.{number_at}
-use Rattle.octets.specs.Records.{some}
 use Rattle.octets.specs.Written.{bytes_of}
 use Rattle.octets.proofs.Sizes.{bytes_length}
 use Rattle.parameter.specs.Types.{esp_info, seq, ack, echo_request_signed, nonce_size, refused_type, wrong_length}
 use Rattle.frame.specs.Header.{header_size, header_holds}
 use Rattle.frame.specs.Survey.{occurs}
-use Rattle.locator_set.specs.Sets.{blanks}
 use Rattle.packet.specs.declared.CheckFields.{CheckFields}
 use Rattle.packet.specs.declared.Message.TheVariants.{PeerCheck}
-use Rattle.packet.specs.declared.Reading.{Reading}
+use Rattle.packet.specs.declared.Message.{Message}
 use Rattle.packet.specs.Kinds.{is_move, is_reply, is_check}
 use Rattle.packet.specs.Readings.{opaque_of, reading_of}
 use Rattle.packet.proofs.Choices.{kind_check}
@@ -82,7 +82,7 @@ module _ (inbound peer id nonce : ℕ) where
 
   module _ (tail : List WireParameter) (follow : Tail echo_request_signed tail) where
     check_formed : Formed 0 (four ++ tail)
-    unfolding Formed wrong_length refused_type some bytes_of
+    unfolding Formed wrong_length refused_type bytes_of
     check_formed = (
       passes 0 esp_info esp_body (omega arith) (omega arith) (omega arith) refl refl,
       (
@@ -116,12 +116,12 @@ module _ (inbound peer id nonce : ℕ) where
       unfolding opaque_of EachStands bytes_of
       opaque_read = body_read packet 72 (written echo_request_signed (bytes_of nonce_size nonce)) stand.1.1.1.0
 
-      check_read : id < 2 ^ 32 → header_holds packet ≡ true → reading_of packet ≡ record { message = PeerCheck the_check; listed = blanks }
+      check_read : id < 2 ^ 32 → header_holds packet ≡ true → reading_of packet ≡ Ok (PeerCheck the_check)
       unfolding is_move is_reply is_check occurs placed bytes_of
       check_read h rule =
           kind_read header four tail echo_request_signed long follow check_formed rule
           ∙ sym (kind_check packet (seen_of four) refl refl refl)
-          ∙ ap (λ (n : ℕ). record { message = PeerCheck (record { id = n; body = 76; len = 8 }); listed = blanks }) (id_read h)
+          ∙ ap (λ (n : ℕ). Ok (PeerCheck (record { id = n; body = 76; len = 8 }))) (id_read h)
 
 -- a Check of eight opaque bytes that is new is answered
 check_accepted : (c : Association) (id nonce : ℕ) → Below c.peer id → handle_check c id (bytes_of nonce_size nonce) ≡ responded c id (bytes_of nonce_size nonce)
@@ -139,6 +139,6 @@ check_answered inbound peer id nonce header tail sent c nonces room h =
     let opaque = ap (λ (s : List ℕ). opaque_of s (the_check inbound peer id nonce tail sent.follow header sent.long)) parts
     ∙ opaque_read inbound peer id nonce tail sent.follow header sent.long in
     heard c packet nonces room h.listens
-    ∙ ap (λ (r : Reading). handle_reading c packet r nonces) (ap reading_of parts ∙ read)
+    ∙ ap (λ (r : Result Message Refusal). handle_reading c packet r nonces) (ap reading_of parts ∙ read)
     ∙ ap (handle_check c id) opaque
     ∙ check_accepted c id nonce h.below

@@ -6,10 +6,9 @@ use mathlib.Core.Bool.{true, false}
 use mathlib.Core.List.{List}
 use native.Mathlib.Omega.{arith}
 use borrow.Author.Tests.{le-ltb, ne_eqb}
+use Rattle.std.specs.Prelude.{None, Option, Some}
 use Rattle.packet.specs.Readings.{reading_of}
 use Rattle.association.specs.declared.Association.{Association}
-use Rattle.association.specs.declared.PeerId.{PeerId}
-use Rattle.association.specs.declared.PeerId.TheVariants.{NoneSeen, Highest}
 use Rattle.update.specs.Refusals.{refusal7, repeats}
 use Rattle.update.specs.Messages.{handle_reading, handled}
 use Rattle.agreement.specs.Sent.{Listens, Below}
@@ -19,6 +18,6 @@ pub heard : (a : Association) (packet nonces : List ℕ) (room : ℕ) → Listen
 unfolding handled
 heard a packet nonces room h = rw (h.unrefused0, h.unrefused1)
 
-pub below_passes : (peer : PeerId) (id : ℕ) → Below peer id → (refusal7 id peer ≡ false) × (repeats id peer ≡ false)
-below_passes NoneSeen id h = (refl, refl)
-below_passes (Highest highest) id h = (le-ltb id highest (omega arith), ne_eqb id highest (λ e. omega arith))
+pub below_passes : (peer : Option ℕ) (id : ℕ) → Below peer id → (refusal7 id peer ≡ false) × (repeats id peer ≡ false)
+below_passes None id h = (refl, refl)
+below_passes (Some highest) id h = (le-ltb id highest (omega arith), ne_eqb id highest (λ e. omega arith))

@@ -24,7 +24,7 @@ passes last kind body t l after right known = record { whole = written_whole kin
 -- the survey of parameters behind a header
 abbrev pub seen_of : List WireParameter → Survey
 seen_of ps = record {
-  unknown = 0;
+  unknown = false;
   esp = occurs esp_info never (placed header_size ps);
   set = occurs locator_set never (placed header_size ps);
   seq = occurs seq never (placed header_size ps);

@@ -19,7 +19,7 @@ pub record Awaits (a : Association) (es : List OwnLocator) (inbound keymat : ℕ
   -- "and which refusals 0, 1, 10 and 11 do not refuse"
   pub listens : Listens b room
   pub unrefused10 : refusal10 nonces b.slots ≡ false
-  pub unrefused11 : refusal11 b.next (checks_of b (announced_fields a es inbound keymat) (announced_list es inbound)) ≡ false
+  pub unrefused11 : refusal11 b.next (checks_of b (announced_fields a inbound keymat) (announced_list es inbound)) ≡ false
 
 -- "what an accepted announcement writes, behind a header and marked authentic, is accepted": by steps 1 to 7 of the Move that we meant
 abbrev pub IsAccepted : Type 0
@@ -29,4 +29,4 @@ IsAccepted =
     → (b : Association) (nonces : List ℕ) (peer_room : ℕ)
     → Awaits a (take count list) inbound keymat b nonces peer_room
     → handled b (sent_packet a list count inbound keymat room header tail) true nonces peer_room
-    ≡ moved b (announced_fields a (take count list) inbound keymat) (announced_list (take count list) inbound) nonces
+    ≡ moved b (announced_fields a inbound keymat) (announced_list (take count list) inbound) nonces

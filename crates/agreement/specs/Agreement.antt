@@ -3,8 +3,7 @@
 -- 1, 10 and 11 do not refuse; and the check that it writes for a new address, behind a header, is a Check to us, accepted where our highest peer ID, if any, is
 -- below the check's; and what we answer, behind a header, is a Reply to it that turns that address ACTIVE. The claim and its premises; `proofs/Agreement.antt`
 -- proves it.
-use Rattle.std.specs.Prelude.{ℕ, ◌+◌, ◌^◌, ◌<◌, ◌≡◌, Bool, true, false, not, ◌||◌, List, length, take}
-use Rattle.std.proofs.Math.Option.{Option, none, some}
+use Rattle.std.specs.Prelude.{ℕ, ◌+◌, ◌^◌, ◌<◌, ◌≡◌, Bool, true, false, not, ◌||◌, List, length, take, None, Ok, Option, Some}
 use Rattle.address.specs.declared.Address.{Address}
 use Rattle.parameter.specs.Types.{echo_request_signed, echo_response_signed}
 use Rattle.locator.specs.declared.ListedLocator.{ListedLocator}
@@ -18,9 +17,9 @@ use Rattle.reply_form.specs.Replies.{nonce_count}
 use Rattle.association.specs.declared.Association.{Association}
 use Rattle.announcement.specs.declared.OwnLocator.{OwnLocator}
 use Rattle.announcement.specs.Announcements as announcements
-use Rattle.update.specs.declared.MessageOutcome.TheVariants.{Moved, Replied, Responded}
 use Rattle.update.specs.Refusals.{refusal1}
 use Rattle.update.specs.Messages.{Handled, differs, handled}
+use Rattle.update.specs.declared.Received.TheVariants.{Moved, Replied, Responded}
 use Rattle.round_trip.specs.Each.{Each}
 use Rattle.round_trip.specs.Wire.{WireParameter}
 use Rattle.round_trip.specs.Read.{Sent, announced_fields, announced_list}
@@ -64,7 +63,7 @@ module _ (e : Meeting) where
   entries = take e.count e.list
 
   abbrev pub fields : MoveFields
-  fields = announced_fields e.ours entries e.inbound e.keymat
+  fields = announced_fields e.ours e.inbound e.keymat
 
   abbrev pub listed : List ListedLocator
   listed = announced_list entries e.inbound
@@ -96,10 +95,10 @@ module _ (e : Meeting) where
 -- ---- the law
 -- an address is ACTIVE or UNVERIFIED
 abbrev pub in_use : Option Status → Bool
-in_use none = false
-in_use (some (Unverified check)) = true
-in_use (some Active) = true
-in_use (some Deprecated) = false
+in_use None = false
+in_use (Some (Unverified k)) = true
+in_use (Some Active) = true
+in_use (Some Deprecated) = false
 
 -- the premises
 pub record Meets (e : Meeting) : Type 0 where
@@ -122,18 +121,18 @@ pub record New (e : Meeting) (x : Address) : Type 0 where
 -- the conclusion
 pub record Agrees (e : Meeting) (x : Address) : Type 0 where
   -- the announcement "is accepted by a peer's association"
-  pub accepted : (reception e).outcome ≡ Moved
+  pub accepted : (reception e).outcome ≡ Ok Moved
   -- "the check that it writes for a new address" is check k, which the address has there
   pub k : ℕ
   pub written : k < (reception e).checks
-  pub checks : status_in x (reception e).left.slots ≡ some (checked_by e.peers.time e.peers.next e.over.nonces k)
+  pub checks : status_in x (reception e).left.slots ≡ Some (checked_by e.peers.time e.peers.next e.over.nonces k)
   -- "behind a header, is a Check to us, accepted where our highest peer ID, if any, is below the check's"
   pub answered : (w : Delivery) → Delivered w (check e k) echo_request_signed → Below (announcement e).left.peer (check_id e k)
-      → (response e k w).outcome ≡ Responded
+      → (response e k w).outcome ≡ Ok Responded
   -- "and what we answer, behind a header, is a Reply to it that turns that address ACTIVE"
   pub verified : (w v : Delivery) → Delivered w (check e k) echo_request_signed → Below (announcement e).left.peer (check_id e k)
       → Delivered v (response e k w).reply echo_response_signed
-      → ((ending e k w v).outcome ≡ Replied) × (status_in x (ending e k w v).left.slots ≡ some Active)
+      → ((ending e k w v).outcome ≡ Ok Replied) × (status_in x (ending e k w v).left.slots ≡ Some Active)
 
 -- Two of ours agree
 abbrev pub TwoOfOursAgree : Type 0

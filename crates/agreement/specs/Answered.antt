@@ -1,7 +1,6 @@
 -- Law 3, its third part, in the words of `Agreement.antt`: our answer "is a Reply to it that turns that address ACTIVE". The claim and its premises;
 -- `proofs/Answered.antt` proves it.
-use Rattle.std.specs.Prelude.{ℕ, ◌^◌, ◌<◌, ◌≡◌, true, List}
-use Rattle.std.proofs.Math.Option.{some}
+use Rattle.std.specs.Prelude.{ℕ, ◌^◌, ◌<◌, ◌≡◌, true, List, Some}
 use Rattle.octets.specs.Written.{bytes_of}
 use Rattle.address.specs.declared.Address.{Address}
 use Rattle.parameter.specs.Types.{echo_response_signed, nonce_size}
@@ -18,7 +17,7 @@ use Rattle.agreement.specs.Sent.{packet_of, Behind, Listens}
 -- the premises: of the peer's association d, the length of its reply buffer, an address, and the check that the address has there
 pub record Checking (d : Association) (room : ℕ) (x : Address) (check : Check) : Type 0 where
   pub listens : Listens d room
-  pub unverified : status_in x d.slots ≡ some (Unverified check)
+  pub unverified : status_in x d.slots ≡ Some (Unverified check)
   -- the number is of its width
   pub sized : check.nonce < 2 ^ 64
 
@@ -29,4 +28,4 @@ TurnsActive =
     → Behind header (response_bytes id (bytes_of nonce_size check.nonce)) tail echo_response_signed
     → (d : Association) (nonces : List ℕ) (room : ℕ) (x : Address) → Checking d room x check
     → (handled d (packet_of header (response_bytes id (bytes_of nonce_size check.nonce)) tail) true nonces room ≡ replied d (Nonce check.nonce))
-    × (status_in x (after_reply d (Nonce check.nonce)).slots ≡ some Active)
+    × (status_in x (after_reply d (Nonce check.nonce)).slots ≡ Some Active)

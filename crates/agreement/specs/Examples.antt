@@ -1,9 +1,8 @@
 -- The premises can be met: we announce two addresses with a new inbound SPI to a peer that knows us at another address. It checks both, and the second check is
 -- followed.
-use Rattle.std.specs.Prelude.{ℕ, ◌≤◌, ◌≡◌, refl, true, false, List, [], ◌∷◌, map, replicate}
-use Rattle.std.proofs.Math.Option.{none, some}
+use Rattle.std.specs.Prelude.{ℕ, ◌≤◌, ◌≡◌, refl, true, false, List, [], ◌∷◌, map, replicate, None, Some}
 use Rattle.std.proofs.Common.{arith}
-use Rattle.octets.specs.Records as runs
+use Rattle.octets.specs.Records.{records}
 use Rattle.octets.specs.Written.{bytes_of}
 use Rattle.address.specs.declared.Address.{Address}
 use Rattle.address.specs.Rules.{legal}
@@ -16,18 +15,14 @@ use Rattle.locator_set.specs.Sets as sets
 use Rattle.slot.specs.declared.Status.TheVariants.{Unverified, Active, Deprecated}
 use Rattle.slot.specs.Found.{status_in}
 use Rattle.slot.specs.Clashes.{clash}
-use Rattle.slots.specs.Rules.{clashing}
-use Rattle.path.specs.declared.Preference.TheVariants.{Prefers}
-use Rattle.path.specs.Choices.{lowest}
 use Rattle.packet.specs.Kinds.{is_move, is_reply, is_check}
 use Rattle.packet.specs.Readings.{opaque_of, kind_of, reading_of}
 use Rattle.readdress.specs.Echoes.{verify_all}
-use Rattle.readdress.specs.Steps.{rebind, entry_for, renew_all, retire_all, place_all, marked_slot}
-use Rattle.readdress.specs.Checks.{check_count, checked, twice}
+use Rattle.readdress.specs.Steps.{rebind, renew_all, retire_all}
+use Rattle.readdress.specs.Checks.{check_count, checked}
 use Rattle.readdress.specs.Moves.{settled, placed}
 use Rattle.reply_form.specs.Replies.{checks_bytes, move_bytes, response_bytes}
 use Rattle.association.specs.declared.Association.{Association}
-use Rattle.association.specs.declared.PeerId.TheVariants.{NoneSeen, Highest}
 use Rattle.association.specs.Form.{refusal0}
 use Rattle.association.specs.Start.{start_slots}
 use Rattle.announcement.specs.declared.OwnLocator.{OwnLocator}
@@ -52,9 +47,9 @@ knows outbound inbound highest next n = record {
   time = 100;
   aged = 100;
   credit = 0;
-  peer = Highest highest;
+  peer = Some highest;
   next = next;
-  preferred = Prefers 0;
+  preferred = Some 0;
   slots = start_slots 100 (address n) 600;
 }
 
@@ -96,10 +91,9 @@ meeting = record {
 -- the definitions that the three calls compute with
 unfoldable calls : ℕ
 unfolding
-    runs.records runs.some bytes_of legal refused_type wrong_length parameter_bytes falls occurs ill_form sets.twice sets.marks is_move is_reply is_check opaque_of kind_of reading_of
-    status_in clash clashing lowest refusal0 verify_all rebind entry_for renew_all retire_all place_all marked_slot check_count checked twice settled placed
-    checks_bytes move_bytes response_bytes after_move handle_move handle_check handled entry_bytes set_body announcement_bytes announcements.after_announcement
-    announcements.handled wire_bytes wires_bytes
+    records bytes_of legal refused_type wrong_length parameter_bytes falls occurs ill_form sets.twice sets.marks is_move is_reply is_check opaque_of kind_of reading_of
+    status_in clash refusal0 verify_all rebind renew_all retire_all check_count checked settled placed checks_bytes move_bytes response_bytes after_move handle_move
+    handle_check handled entry_bytes set_body announcement_bytes announcements.after_announcement announcements.handled wire_bytes wires_bytes
 calls = 0
 
 -- HIP_MAC follows any type that is not above its own
@@ -153,12 +147,12 @@ delivered = (
 )
 
 -- "below", at its edge: 5 is below 6 and not below 5; "if any": without one any ID is new
-below : Below (Highest 5) 6 × Below NoneSeen 0
+below : Below (Some 5) 6 × Below None 0
 below = (omega arith, tt)
 
-not_below : (Below (Highest 5) 5 → ⊥) × (Below (Highest 5) 4 → ⊥)
+not_below : (Below (Some 5) 5 → ⊥) × (Below (Some 5) 4 → ⊥)
 not_below = (λ h. omega arith, λ h. omega arith)
 
 -- "a new address" is neither ACTIVE nor UNVERIFIED: one that is not held, or is DEPRECATED
-in_use_lem : map in_use (none ∷ some (Unverified (record { nonce = 7; id = 8; issued = 0; resends = 0 })) ∷ some Active ∷ some Deprecated ∷ []) ≡ false ∷ true ∷ true ∷ false ∷ []
+in_use_lem : map in_use (None ∷ Some (Unverified (record { nonce = 7; id = 8; issued = 0; resends = 0 })) ∷ Some Active ∷ Some Deprecated ∷ []) ≡ false ∷ true ∷ true ∷ false ∷ []
 in_use_lem = refl

@@ -1,9 +1,7 @@
 -- What goes over, and who hears it: the premises that the three packets have in common. The words in quotation marks are law 3's, in `Agreement.antt`.
-use Rattle.std.specs.Prelude.{ℕ, ◌<◌, ◌≡◌, true, false, List, ◌++◌, length}
+use Rattle.std.specs.Prelude.{ℕ, ◌<◌, ◌≡◌, true, false, List, ◌++◌, length, None, Option, Some}
 use Rattle.frame.specs.Header.{header_size, header_holds}
 use Rattle.association.specs.declared.Association.{Association}
-use Rattle.association.specs.declared.PeerId.{PeerId}
-use Rattle.association.specs.declared.PeerId.TheVariants.{NoneSeen, Highest}
 use Rattle.association.specs.Form.{refusal0}
 use Rattle.update.specs.Refusals.{refusal1}
 use Rattle.round_trip.specs.Wire.{WireParameter, wires_bytes, Tail}
@@ -26,6 +24,6 @@ pub record Listens (a : Association) (room : ℕ) : Type 0 where
   pub unrefused1 : refusal1 room ≡ false
 
 -- the "highest peer ID, if any, is below" this one
-abbrev pub Below : PeerId → (id : ℕ) → Type 0
-Below NoneSeen id = Unit {0}
-Below (Highest highest) id = highest < id
+abbrev pub Below : Option ℕ → (id : ℕ) → Type 0
+Below None id = Unit {0}
+Below (Some highest) id = highest < id

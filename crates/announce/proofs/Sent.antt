@@ -2,7 +2,7 @@
 use Prim.Native.Nat.{ℕ, ◌+◌, ◌≤◌}
 use mathlib.Core.Path.{◌≡◌, refl, ◌∙◌}
 use mathlib.Core.List.{List, ◌++◌}
-use lib.ListN.{length, take}
+use lib.ListN.{length}
 use native.Mathlib.Omega.{arith}
 use Rattle.parameter.specs.Types.{locator_set, seq}
 use Rattle.parameter.proofs.Sizes.{parameter_length}
@@ -11,18 +11,10 @@ use Rattle.writer.proofs.Writes.{written_first}
 use Rattle.reply_form.specs.Replies.{esp_info_with, seq_bytes, overwritten}
 use Rattle.reply_form.proofs.Sizes.{number_length, esp_info_length_lem}
 use Rattle.association.specs.declared.Association.{Association}
-use Rattle.association.specs.declared.Outcome.TheVariants.{Accepted}
 use Rattle.announcement.specs.declared.OwnLocator.{OwnLocator}
 use Rattle.announcement.specs.Written.{set_body, locator_set_bytes, announcement_bytes}
-use Rattle.announcement.specs.Announcements.{answer_of}
 use Rattle.announcement.proofs.Sizes.{announcement_length}
-use Rattle.announce_writer.proofs.Parts.{three_written, size_few, set_taken}
-
--- the set's bytes are few
-pub set_few : (spi : ℕ) (es : List OwnLocator) (count size : ℕ) → length es ≤ 8 → size ≡ length (locator_set_bytes spi (take count es)) → size ≤ 240
-set_few spi es count size h s =
-    let body : ℕ = length (set_body spi (take count es)) in
-    omega (arith, set_taken spi (take count es) body refl, size_few spi es count body h refl)
+use Rattle.announce_writer.proofs.Parts.{three_written}
 
 module _ (a : Association) (es : List OwnLocator) (inbound keymat : ℕ) where
   -- the announcement takes those of its three parameters
@@ -43,8 +35,3 @@ module _ (a : Association) (es : List OwnLocator) (inbound keymat : ℕ) where
       let all : 16 + length locators + 8 ≡ length (info ++ (locators ++ own)) = announcement_taken (length locators) refl in
       three_written 0 16 place info locators own b b1 b2 b3 (omega arith) (omega arith) (omega arith) p1 p2 p3
       ∙ written_first (info ++ (locators ++ own)) b (omega arith)
-
--- the answer to an accepted call
-pub sent : (size : ℕ) (bytes : List ℕ) (b d : Association) → size ≡ length bytes → b ≡ d
-    → record { outcome = Accepted; written = size; association = b } ≡ answer_of (record { outcome = Accepted; bytes = bytes; left = d })
-sent size bytes b d e p = rw (e, p)

@@ -3,8 +3,8 @@ use Prim.Native.Nat.{ℕ, ◌+◌, ◌-◌, ◌%◌, ◌≤◌, ◌<◌}
 use mathlib.Core.Path.{◌≡◌, refl, sym, ap, ◌∙◌}
 use mathlib.Core.Bool.{false}
 use mathlib.Core.List.{List, [], ◌∷◌, ◌++◌, append_assoc, append-nil}
-use lib.ListN.{length, take, drop, set, get_or, length-append, length-replicate, length-take}
-use lib.Seq.{take-suc, take-add}
+use lib.ListN.{length, take, drop, get_or, take-append-drop, length-append, length-replicate}
+use lib.Seq.{take-suc}
 use native.Mathlib.Numerals.{add-one}
 use native.Mathlib.Omega.{arith}
 use Rattle.octets.specs.Written.{bytes_of}
@@ -17,12 +17,11 @@ use Rattle.parameter.proofs.Sizes.{parameter_length}
 use Rattle.locator_set.specs.Sets.{mark}
 use Rattle.writer.specs.Writes.{written_at}
 use Rattle.writer.proofs.Writes.{written_more, written_none}
-use Rattle.writer.proofs.Stores.{stores, stored}
 use Rattle.reply.proofs.Parts.{part_beyond}
 use Rattle.announcement.specs.declared.OwnLocator.{OwnLocator}
 use Rattle.announcement.specs.Written.{units_of, spi_bytes, address_bytes, entry_bytes, set_body, locator_set_bytes}
 use Rattle.announcement.specs.Entries.{entry_size, set_size}
-use Rattle.announcement.proofs.Sizes.{spi_length, entry_length, set_length, set_bound}
+use Rattle.announcement.proofs.Sizes.{spi_length, entry_length, set_length}
 use Rattle.announce_writer.specs.Parts.{entry_head, padding}
 
 -- ---- bytes at places one after another
@@ -35,18 +34,13 @@ three_written at next last x y z b b1 b2 b3 n l h p1 p2 p3 =
     written_more at last (x ++ y) z b b2 b3 (omega arith) h two p3 ∙ ap (λ (s : List ℕ). written_at at s b) (append_assoc x y z)
 
 -- ---- an entry
--- its head, of which the first four bytes are stored
-pub entry_head_written : (e : OwnLocator) (at units marked : ℕ) (b b1 : List ℕ) → at + 8 ≤ length b → units ≡ units_of e.kind → marked ≡ mark e.preferred
-    → b1 ≡ written_at (at + 4) (bytes_of 4 e.lifetime) (stores at 1 (e.kind ∷ units ∷ marked ∷ []) (set b at e.traffic))
-    → b1 ≡ written_at at (entry_head e) b
-entry_head_written e at units marked b b1 h u m p =
-    let rest : List ℕ = e.kind ∷ units_of e.kind ∷ mark e.preferred ∷ [] in
-    let four : List ℕ = e.traffic ∷ rest in
-    let lifetime : List ℕ = bytes_of 4 e.lifetime in
+-- its head: its first four bytes, and its lifetime
+pub entry_head_written : (e : OwnLocator) (at : ℕ) (b b1 b2 : List ℕ) → at + 8 ≤ length b
+    → b1 ≡ written_at at (e.traffic ∷ e.kind ∷ units_of e.kind ∷ mark e.preferred ∷ []) b → b2 ≡ written_at (at + 4) (bytes_of 4 e.lifetime) b1
+    → b2 ≡ written_at at (entry_head e) b
+entry_head_written e at b b1 b2 h p1 p2 =
     let size = bytes_length 4 e.lifetime in
-    let first : stores at 1 rest (set b at e.traffic) ≡ written_at at four b = stored at e.traffic rest four b refl (omega arith) in
-    written_more at (at + 4) four lifetime b (written_at at four b) b1 refl (omega arith) refl
-    (p ∙ rw (u, m) (ap (λ (s : List ℕ). written_at (at + 4) lifetime s) first))
+    written_more at (at + 4) (e.traffic ∷ e.kind ∷ units_of e.kind ∷ mark e.preferred ∷ []) (bytes_of 4 e.lifetime) b b1 b2 refl (omega arith) p1 p2
 
 pub address_written : (x : Address) (at : ℕ) (b b1 b2 : List ℕ) → at + 16 ≤ length b → b1 ≡ written_at at (bytes_of 8 x.high) b
     → b2 ≡ written_at (at + 8) (bytes_of 8 x.low) b1 → b2 ≡ written_at at (address_bytes x) b
@@ -69,7 +63,7 @@ entry_written spi e at place b b1 b2 b3 h q p1 p2 p3 =
     three_written at (at + 8) place (entry_head e) own address b b1 b2 b3 (omega arith) (omega arith) (omega arith) p1 p2 p3
 
 -- ---- the entries
--- what an array's element is past its end
+-- what an entry is past a list's end
 abbrev pub blank_entry : OwnLocator
 blank_entry = record { address = record { high = 0; low = 0 }; lifetime = 0; kind = 0; traffic = 0; preferred = false }
 
@@ -101,12 +95,10 @@ module _ (es : List OwnLocator) (k : ℕ) (d : OwnLocator) (h : k < length es) w
   size_more : set_size (take (k + 1) es) ≡ set_size (take k es) + entry_size (get_or es k d)
   size_more = rw taken_more (size_append (take k es) (get_or es k d ∷ []) ∙ ap (λ (n : ℕ). set_size (take k es) + n) (size_one (get_or es k d)))
 
-  pub size_within : (count : ℕ) → k < count → set_size (take k es) + entry_size (get_or es k d) ≤ set_size (take count es)
-  size_within count l =
-      let more : ℕ = count - (k + 1) in
-      let all : (k + 1) + more ≡ count = omega arith in
-      let parts : take count es ≡ take (k + 1) es ++ take more (drop (k + 1) es) = rw all at (take-add (k + 1) more es) in
-      omega (arith, size_more, ap set_size parts ∙ size_append (take (k + 1) es) (take more (drop (k + 1) es)))
+  pub size_within : set_size (take k es) + entry_size (get_or es k d) ≤ set_size es
+  size_within =
+      let parts = ap set_size (take-append-drop (k + 1) es) in
+      omega (arith, size_more, size_append (take (k + 1) es) (drop (k + 1) es), parts)
 
   pub entries_next : (spi at next : ℕ) (b b1 b2 : List ℕ) → at + set_size (take k es) + entry_size (get_or es k d) ≤ length b
       → next ≡ at + set_size (take k es) → b1 ≡ written_at at (set_body spi (take k es)) b → b2 ≡ written_at next (entry_bytes spi (get_or es k d)) b1
@@ -134,13 +126,7 @@ unfolding set_size
 place_first at es = omega arith
 
 -- ---- LOCATOR_SET
--- its entries take few bytes
-pub size_few : (spi : ℕ) (es : List OwnLocator) (count size : ℕ) → length es ≤ 8 → size ≡ length (set_body spi (take count es)) → size ≤ 224
-size_few spi es count size h s =
-    let few : length (take count es) ≤ 8 = omega (arith, length-take count es) in
-    omega (arith, set_bound spi (take count es) few)
-
--- and whole units
+-- its entries are whole units
 pub whole_units : (es : List OwnLocator) → set_size es % 4 ≡ 0
 unfolding set_size
 whole_units [] = refl

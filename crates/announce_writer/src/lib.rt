@@ -2,9 +2,8 @@
 // announcement, reply, writer, locator_set, locator and parameter.
 #![tactic(auto)]
 
-ghost use Rattle.std.specs.Prelude.{ℕ, ◌+◌, ◌%◌, ◌≤◌, ◌≡◌, length, take};
+ghost use Rattle.std.specs.Prelude.{ℕ, ◌+◌, ◌%◌, ◌≤◌, ◌≡◌, length};
 ghost use Rattle.locator.specs.Locators.{unit};
-ghost use Rattle.locator_set.specs.Sets.{mark};
 ghost use Rattle.writer.specs.Writes.{written_at};
 ghost use Rattle.announcement.specs.Written.{units_of, spi_bytes, address_bytes, entry_bytes, set_body, locator_set_bytes};
 ghost use Rattle.announcement.specs.Entries.{entry_size, set_size};
@@ -13,10 +12,10 @@ ghost use Rattle.announce_writer.specs.Parts.{entry_head, padding};
 use address::Address;
 use announcement::OwnLocator;
 use locator::{HEAD_SIZE as ENTRY_HEAD_SIZE, SPI_TYPE, UNIT};
-use locator_set::SET_LIMIT;
+use own_list::OwnList;
 use parameter::LOCATOR_SET;
 use reply::HEAD_SIZE;
-use writer::{put_u32, put_u64};
+use writer::{has_room, put_bytes, put_u32, put_u64};
 
 // The bytes of an entry's address, with which it ends.
 const ADDRESS_SIZE: usize = 16;
@@ -28,24 +27,18 @@ fn units_of(kind: u8) -> u8
     if kind == SPI_TYPE { 5 } else { 4 }
 }
 
-// P alone in its byte.
-fn mark_of(preferred: bool) -> u8
-    ensures { result ≡ mark preferred }
-{
-    if preferred { 1 } else { 0 }
-}
-
-// Writes what stands before an entry's SPI and address: traffic type, locator type, length, P and lifetime.
-fn put_entry_head(buffer: &mut [u8], at: usize, e: OwnLocator)
+// Writes what stands before an entry's SPI and address: traffic type, locator type, length, P alone in its byte, and lifetime.
+#[tactic(auto, using(crate::proofs::Parts::entry_head_written))]
+fn put_entry_head(buffer: &mut [u8], at: usize, e: &OwnLocator)
     requires { at + 8 ≤ length buffer.old }
-    ensures { buffer.new ≡ written_at at (entry_head e) buffer.old }
+    ensures { buffer.new ≡ written_at at (entry_head e.now) buffer.old }
 {
     let units = units_of(e.kind);
-    let mark = mark_of(e.preferred);
-    buffer[at] = e.traffic;
-    buffer[at + 1] = e.kind;
-    buffer[at + 2] = units;
-    buffer[at + 3] = mark;
+    put_bytes(
+        buffer,
+        at,
+        &[e.traffic, e.kind, units, u8::from(e.preferred)],
+    );
     put_u32(buffer, at + 4, e.lifetime);
 }
 
@@ -60,6 +53,7 @@ fn put_spi(buffer: &mut [u8], at: usize, kind: u8, spi: u32)
 }
 
 // Writes the 16 bytes of an address.
+#[tactic(auto, using(crate::proofs::Parts::address_written))]
 fn put_address(buffer: &mut [u8], at: usize, address: Address)
     requires { at + 16 ≤ length buffer.old }
     ensures { buffer.new ≡ written_at at (address_bytes address) buffer.old }
@@ -69,41 +63,28 @@ fn put_address(buffer: &mut [u8], at: usize, address: Address)
 }
 
 // Writes an entry, and says where the next one starts.
-fn put_entry(buffer: &mut [u8], at: usize, spi: u32, e: OwnLocator) -> usize
-    requires { at + entry_size e ≤ length buffer.old }
-    ensures value { result ≡ at + entry_size e }
-    ensures buffer_after { buffer.new ≡ written_at at (entry_bytes spi e) buffer.old }
+#[tactic(auto, using(announcement::proofs::Sizes::units_least, crate::proofs::Parts::entry_written))]
+fn put_entry(buffer: &mut [u8], at: usize, spi: u32, e: &OwnLocator) -> usize
+    requires { at + entry_size e.now ≤ length buffer.old }
+    ensures value { result ≡ at + entry_size e.now }
+    ensures buffer_after { buffer.new ≡ written_at at (entry_bytes spi e.now) buffer.old }
 {
-    let next = at + ENTRY_HEAD_SIZE + UNIT * units_of(e.kind) as usize;
-    let address = e.address;
+    let next = at + ENTRY_HEAD_SIZE + UNIT * usize::from(units_of(e.kind));
     put_entry_head(buffer, at, e);
     put_spi(buffer, at + ENTRY_HEAD_SIZE, e.kind, spi);
-    put_address(buffer, next - ADDRESS_SIZE, address);
+    put_address(buffer, next - ADDRESS_SIZE, e.address);
     next
 }
 
-// Writes the first `count` entries one after another, and says where they end.
-fn put_entries(
-    buffer: &mut [u8],
-    at: usize,
-    spi: u32,
-    list: [OwnLocator; SET_LIMIT],
-    count: usize,
-) -> usize
-    requires { at + set_size (take count list) ≤ length buffer.old }
-    ensures value { result ≡ at + set_size (take count list) }
-    ensures buffer_after { buffer.new ≡ written_at at (set_body spi (take count list)) buffer.old }
+// Writes entries one after another, and says where they end.
+fn put_entries(buffer: &mut [u8], at: usize, spi: u32, list: &[OwnLocator]) -> usize
+    requires { at + set_size list.now ≤ length buffer.old }
+    ensures value { result ≡ at + set_size list.now }
+    ensures buffer_after { buffer.new ≡ written_at at (set_body spi list.now) buffer.old }
 {
-    let entries = list;
     let mut next = at;
-    let mut k: usize = 0;
-    while k < SET_LIMIT {
-        if count <= k {
-            return next;
-        }
-        let e = entries[k];
+    for e in list {
         next = put_entry(buffer, next, spi, e);
-        k += 1;
     }
     next
 }
@@ -119,33 +100,23 @@ fn put_padding(buffer: &mut [u8], at: usize, size: usize)
     }
 }
 
-// The bytes of LOCATOR_SET with the first `count` entries, whatever the SPI.
-pub fn locator_set_size(list: [OwnLocator; SET_LIMIT], count: usize) -> usize
-    ensures { (spi : ℕ) → result ≡ length (locator_set_bytes spi (take count list)) }
+// The bytes of LOCATOR_SET with our list, whatever the SPI.
+#[tactic(auto, using(crate::proofs::Parts::set_taken))]
+pub fn locator_set_size(list: &OwnList) -> usize
+    ensures few { result ≤ 240 }
+    ensures value { (spi : ℕ) → result ≡ length (locator_set_bytes spi list.now.entries.now) }
 {
-    let size = own_list::set_size(list, count);
-    parameter::taken_by(size as u16)
+    parameter::taken_by(own_list::set_size(list) as u16)
 }
 
-// Writes LOCATOR_SET with the first `count` entries, and `spi` in those of type 1; nothing where the buffer ends before it does.
-pub fn put_locator_set(
-    buffer: &mut [u8],
-    at: usize,
-    spi: u32,
-    list: [OwnLocator; SET_LIMIT],
-    count: usize,
-)
-    ensures { buffer.new ≡ written_at at (locator_set_bytes spi (take count list)) buffer.old }
+// Writes LOCATOR_SET with our list, and `spi` in its entries of type 1; nothing where the buffer ends before it does.
+pub fn put_locator_set(buffer: &mut [u8], at: usize, spi: u32, list: &OwnList)
+    ensures { buffer.new ≡ written_at at (locator_set_bytes spi list.now.entries.now) buffer.old }
 {
-    let size = own_list::set_size(list, count);
-    let taken = parameter::taken_by(size as u16);
-    if buffer.len() < taken {
-        return;
+    let size = own_list::set_size(list);
+    if has_room(buffer, at, parameter::taken_by(size as u16)) {
+        reply::put_head(buffer, at, LOCATOR_SET as u16, size as u16);
+        let end = put_entries(buffer, at + HEAD_SIZE, spi, list.entries);
+        put_padding(buffer, end, size);
     }
-    if buffer.len() - taken < at {
-        return;
-    }
-    reply::put_head(buffer, at, LOCATOR_SET as u16, size as u16);
-    let end = put_entries(buffer, at + HEAD_SIZE, spi, list, count);
-    put_padding(buffer, end, size);
 }

@@ -8,7 +8,7 @@ use lib.ListN.{length}
 use native.Mathlib.Omega.{arith}
 use borrow.Author.Tests.{le-ltb, eq-eqb, ne_eqb, ltb-false, eqb-true, eqb-false}
 use Rattle.boolean.proofs.Laws.{or_false_left, or_false_right}
-use Rattle.octets.specs.Records.{some}
+use Rattle.std.specs.List.{list_any}
 use Rattle.address.specs.declared.Address.{Address}
 use Rattle.address.specs.Rules.{same_address, legal}
 use Rattle.locator.specs.Locators.{listed_address, next_locator, ill_form, illegal_at}
@@ -27,8 +27,8 @@ pub entry_known : (e : OwnLocator) → ill_entry e ≡ false → e.kind ≤ 1
 unfolding ill_entry
 entry_known e h = ltb-false 1 e.kind (or_false_left (ltb 1 e.kind) _ (or_false_right (ltb 2 e.traffic) _ h))
 
-pub list_known : (es : List OwnLocator) → some ill_entry es ≡ false → AllKnown es
-unfolding some AllKnown
+pub list_known : (es : List OwnLocator) → list_any ill_entry es ≡ false → AllKnown es
+unfolding AllKnown
 list_known [] h = tt
 list_known (e ∷ es) h = (entry_known e (or_false_left (ill_entry e) _ h), list_known es (or_false_right (ill_entry e) _ h))
 
@@ -64,11 +64,11 @@ module _ (spi : ℕ) (s : List ℕ) (at : ℕ) (e : OwnLocator) (w : Stands spi 
 
 -- the entries that stand from a place on
 forms_judged : (spi : ℕ) (s : List ℕ) (at : ℕ) (es : List OwnLocator) → EachStands spi s at es → AllSized es
-    → some (illegal_at s) (starts at es) ≡ some ill_entry es
-unfolding EachStands AllSized starts some
+    → list_any (illegal_at s) (starts at es) ≡ list_any ill_entry es
+unfolding EachStands AllSized starts
 forms_judged spi s at [] w z = refl
 forms_judged spi s at (e ∷ es) w z =
-    ap (λ (ill : Bool). ill || some (illegal_at s) (starts (at + entry_size e) es)) (entry_judged spi s at e w.0 z.0)
+    ap (λ (ill : Bool). ill || list_any (illegal_at s) (starts (at + entry_size e) es)) (entry_judged spi s at e w.0 z.0)
     ∙ ap (λ (ill : Bool). ill_entry e || ill) (forms_judged spi s (at + entry_size e) es w.1 z.1)
 
 twice_judged : (spi : ℕ) (s : List ℕ) (at : ℕ) (before : List Address) (es : List OwnLocator) → EachStands spi s at es → AllSized es → AllKnown es
@@ -76,8 +76,8 @@ twice_judged : (spi : ℕ) (s : List ℕ) (at : ℕ) (before : List Address) (es
 unfolding EachStands AllSized AllKnown starts twice twice_in
 twice_judged spi s at before [] w z k = refl
 twice_judged spi s at before (e ∷ es) w z k =
-    ap (λ (x : Address). some (same_address x) before || twice s (x ∷ before) (starts (at + entry_size e) es)) (address_read spi s at e w.0 k.0 z.0)
-    ∙ ap (λ (ill : Bool). some (same_address e.address) before || ill) (twice_judged spi s (at + entry_size e) (e.address ∷ before) es w.1 z.1 k.1)
+    ap (λ (x : Address). list_any (same_address x) before || twice s (x ∷ before) (starts (at + entry_size e) es)) (address_read spi s at e w.0 k.0 z.0)
+    ∙ ap (λ (ill : Bool). list_any (same_address e.address) before || ill) (twice_judged spi s (at + entry_size e) (e.address ∷ before) es w.1 z.1 k.1)
 
 marks_judged : (spi : ℕ) (s : List ℕ) (at before : ℕ) (es : List OwnLocator) → EachStands spi s at es → marks s before (starts at es) ≡ marks_in before es
 unfolding EachStands starts marks marks_in
@@ -99,12 +99,12 @@ bytes_none spi es = go (eqb (length es) 0) refl
 
 -- the places of a set judged, and its entries
 places_judged : (spi : ℕ) (es : List OwnLocator) → AllSized es
-    → (some (illegal_at (set_body spi es)) (starts 0 es) || (twice (set_body spi es) [] (starts 0 es) || ltb 1 (marks (set_body spi es) 0 (starts 0 es))))
+    → (list_any (illegal_at (set_body spi es)) (starts 0 es) || (twice (set_body spi es) [] (starts 0 es) || ltb 1 (marks (set_body spi es) 0 (starts 0 es))))
     ≡ ill_list es
 places_judged spi es z =
     ap (λ (ill : Bool). ill || (twice s [] (starts 0 es) || ltb 1 (marks s 0 (starts 0 es)))) (forms_judged spi s 0 es stand z)
-    ∙ ap (λ (n : ℕ). some ill_entry es || (twice s [] (starts 0 es) || ltb 1 n)) (marks_judged spi s 0 0 es stand)
-    ∙ go (some ill_entry es) refl
+    ∙ ap (λ (n : ℕ). list_any ill_entry es || (twice s [] (starts 0 es) || ltb 1 n)) (marks_judged spi s 0 0 es stand)
+    ∙ go (list_any ill_entry es) refl
   where
     s : List ℕ
     s = set_body spi es
@@ -112,7 +112,7 @@ places_judged spi es z =
     stand : EachStands spi s 0 es
     stand = set_stands spi es
 
-    go : (b : Bool) → some ill_entry es ≡ b → (b || (twice s [] (starts 0 es) || ltb 1 (marks_in 0 es))) ≡ (b || (twice_in [] es || ltb 1 (marks_in 0 es)))
+    go : (b : Bool) → list_any ill_entry es ≡ b → (b || (twice s [] (starts 0 es) || ltb 1 (marks_in 0 es))) ≡ (b || (twice_in [] es || ltb 1 (marks_in 0 es)))
     go true p = refl
     go false p = ap (λ (ill : Bool). ill || ltb 1 (marks_in 0 es)) (twice_judged spi s 0 [] es stand z (list_known es p))
 
@@ -120,7 +120,7 @@ places_judged spi es z =
 pub set_refused : (spi : ℕ) (es : List OwnLocator) → AllSized es
     → refusal6 (set_body spi es) ≡ (eqb (length es) 0 || (ltb set_limit (length es) || ill_list es))
 set_refused spi es z =
-    ap (λ (ats : List ℕ). eqb (length s) 0 || (ltb set_limit (length ats) || (some (illegal_at s) ats || (twice s [] ats || ltb 1 (marks s 0 ats)))))
+    ap (λ (ats : List ℕ). eqb (length s) 0 || (ltb set_limit (length ats) || (list_any (illegal_at s) ats || (twice s [] ats || ltb 1 (marks s 0 ats)))))
     (places_read spi es)
     ∙ ap (λ (ill : Bool). eqb (length s) 0 || (ltb set_limit (length (starts 0 es)) || ill)) (places_judged spi es z)
     ∙ rw (bytes_none spi es, starts_length 0 es)
@@ -138,7 +138,7 @@ pub accepted_known : (spi : ℕ) (es : List OwnLocator) → AllSized es → refu
 accepted_known spi es z h =
     let judged : (eqb (length es) 0 || (ltb set_limit (length es) || ill_list es)) ≡ false = sym (set_refused spi es z) ∙ h in
     let entries : ill_list es ≡ false = or_false_right (ltb set_limit (length es)) _ (or_false_right (eqb (length es) 0) _ judged) in
-    list_known es (or_false_left (some ill_entry es) _ entries)
+    list_known es (or_false_left (list_any ill_entry es) _ entries)
 
 pub accepted_listed : (spi : ℕ) (es : List OwnLocator) → AllSized es → spi < 2 ^ 32 → refusal6 (set_body spi es) ≡ false
     → listed_of (set_body spi es) ≡ map (as_listed spi) es

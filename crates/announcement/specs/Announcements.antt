@@ -1,16 +1,15 @@
 -- The call that announces: from the association, our list, the new inbound SPI, the KEYMAT Index and the length of the lent buffer to the whole answer.
-use Rattle.std.specs.Prelude.{ℕ, ◌+◌, Bool, cond, ◌||◌, List, [], ltb, eqb, length, take}
+use Rattle.std.specs.Prelude.{ℕ, ◌+◌, Bool, cond, ◌||◌, List, [], ltb, eqb, length, take, Err, Ok, Result, ⊤}
 use Rattle.refusal.specs.Table.{refusal}
 use Rattle.locator_set.specs.Sets.{set_limit, refusal6}
 use Rattle.association.specs.declared.Association.{Association}
-use Rattle.association.specs.declared.Outcome.{Outcome}
-use Rattle.association.specs.declared.Outcome.TheVariants.{Accepted, Refused}
 use Rattle.association.specs.Form.{id_limit, refusal0}
 use Rattle.association.specs.Start.{unusable_spi}
 use Rattle.reply_form.specs.Replies.{overwritten}
 use Rattle.announcement.specs.declared.OwnLocator.{OwnLocator}
 use Rattle.announcement.specs.declared.Announcement.{Announcement}
 use Rattle.announcement.specs.Written.{set_body, announcement_bytes}
+use Rattle.refusal.specs.declared.Refusal.{Refusal}
 
 -- ---- the refusals
 -- refusal 17: "list outside 1 to 8"
@@ -36,13 +35,13 @@ refusal21 room bytes = ltb room (length bytes)
 -- ---- the answers
 -- an answer with the bytes themselves
 pub record Announced : Type 0 where
-  pub outcome : Outcome
+  pub outcome : Result ⊤ Refusal
   pub bytes : List ℕ
   pub left : Association
 
 -- "A refusal returns its number and zero reply bytes; association and buffer are as lent."
 abbrev pub declined : (number : ℕ) → Association → Announced
-declined number a = record { outcome = Refused (refusal number); bytes = []; left = a }
+declined number a = record { outcome = Err (refusal number); bytes = []; left = a }
 
 -- "OLD SPI is the inbound SPI, which becomes the new one; the Update ID is the next own one, which rises by one."
 unfoldable pub after_announcement : Association → (inbound : ℕ) → Association
@@ -61,7 +60,7 @@ after_announcement a inbound = record {
 -- the announcement of this list
 abbrev pub announced : Association → List OwnLocator → (inbound keymat : ℕ) → Announced
 announced a es inbound keymat = record {
-  outcome = Accepted;
+  outcome = (Ok tt);
   bytes = announcement_bytes a es inbound keymat;
   left = after_announcement a inbound;
 }

@@ -1,7 +1,7 @@
 -- The entries of our list judged and counted as they are held, and not by their bytes: cited by private functions of `own_list` and by laws alone, and proved
 -- to answer as the bytes do.
 use Rattle.std.specs.Prelude.{ℕ, ◌+◌, ◌*◌, Bool, false, not, ◌||◌, List, [], ◌∷◌, ltb, eqb}
-use Rattle.octets.specs.Records.{some}
+use Rattle.std.specs.List.{list_any}
 use Rattle.address.specs.declared.Address.{Address}
 use Rattle.address.specs.Rules.{same_address, legal}
 use Rattle.locator.specs.Locators.{head_size, unit}
@@ -30,7 +30,7 @@ ill_entry e = ltb 2 e.traffic || (ltb 1 e.kind || (eqb e.lifetime 0 || not (lega
 -- "an address twice": one of the entries' stands among those before it, the first among `before`
 unfoldable pub twice_in : (before : List Address) → List OwnLocator → Bool
 twice_in before [] = false
-twice_in before (e ∷ es) = some (same_address e.address) before || twice_in (e.address ∷ before) es
+twice_in before (e ∷ es) = list_any (same_address e.address) before || twice_in (e.address ∷ before) es
 
 -- how many have P, after `before` others
 unfoldable pub marks_in : (before : ℕ) → List OwnLocator → ℕ
@@ -39,4 +39,4 @@ marks_in before (e ∷ es) = marks_in (before + mark e.preferred) es
 
 -- the entries by themselves, "an address twice, P twice"
 abbrev pub ill_list : List OwnLocator → Bool
-ill_list es = some ill_entry es || (twice_in [] es || ltb 1 (marks_in 0 es))
+ill_list es = list_any ill_entry es || (twice_in [] es || ltb 1 (marks_in 0 es))

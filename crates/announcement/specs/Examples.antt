@@ -1,8 +1,8 @@
 -- Worked examples, computed from the definitions: entries and a whole announcement in hex, each refusal at its edges, their order, and whole answers.
-use Rattle.std.specs.Prelude.{ℕ, ◌+◌, ◌≡◌, refl, Bool, true, false, List, [], ◌∷◌, ◌++◌, map, length, replicate}
+use Rattle.std.specs.Prelude.{ℕ, ◌+◌, ◌≡◌, refl, Bool, true, false, List, [], ◌∷◌, ◌++◌, map, length, replicate, Err, Ok, Option, Some}
 use Rattle.std.proofs.Common.{arith}
 use Rattle.octets.specs.ExamplesHex.{hex}
-use Rattle.octets.specs.Records.{records, some}
+use Rattle.octets.specs.Records.{records}
 use Rattle.octets.specs.Written.{bytes_of}
 use Rattle.refusal.specs.declared.Refusal.TheVariants.{BadAssociation, BadListSize, BadList, BadInboundSpi, NoUpdateIdLeft, ShortBuffer}
 use Rattle.address.specs.Rules.{legal}
@@ -13,13 +13,7 @@ use Rattle.slot.specs.declared.Status.TheVariants.{Active}
 use Rattle.slot.specs.declared.Slot.{Slot}
 use Rattle.slot.specs.Found.{empty_slot, slot_of}
 use Rattle.slot.specs.Clashes.{clash}
-use Rattle.slots.specs.Rules.{clashing}
-use Rattle.path.specs.declared.Preference.{Preference}
-use Rattle.path.specs.declared.Preference.TheVariants.{Prefers}
-use Rattle.association.specs.declared.PeerId.{PeerId}
-use Rattle.association.specs.declared.PeerId.TheVariants.{Highest}
 use Rattle.association.specs.declared.Association.{Association}
-use Rattle.association.specs.declared.Outcome.TheVariants.{Accepted, Refused}
 use Rattle.association.specs.Form.{refusal0}
 use Rattle.announcement.specs.declared.OwnLocator.{OwnLocator}
 use Rattle.announcement.specs.Written.{entry_bytes, set_body, announcement_bytes}
@@ -94,7 +88,7 @@ sized = (
 
 -- ---- whole announcements
 -- an association by its fields
-abbrev holding : (outbound inbound time aged credit : ℕ) → PeerId → (next : ℕ) → Preference → List Slot → Association
+abbrev holding : (outbound inbound time aged credit : ℕ) → Option ℕ → (next : ℕ) → Option ℕ → List Slot → Association
 holding outbound inbound time aged credit peer next preferred slots = record {
   outbound = outbound;
   inbound = inbound;
@@ -110,7 +104,7 @@ holding outbound inbound time aged credit peer next preferred slots = record {
 -- one at time 100, with these inbound SPI, next own Update ID and preferred slot
 abbrev with : (inbound next preferred : ℕ) → Association
 with inbound next preferred =
-    holding 0x2001 inbound 100 97 500 (Highest 7) next (Prefers preferred)
+    holding 0x2001 inbound 100 97 500 (Some 7) next (Some preferred)
     (slot_of (record { address = record { high = 1; low = 1 }; traffic = 0; expiry = 130; status = Active }) ∷ replicate 7 empty_slot)
 
 -- the inbound SPI 0x1001 and the next own Update ID 3
@@ -159,7 +153,7 @@ refused_lists : map (refusal18 0x1002)
     ∷ (own 1 0 0 60 true ∷ own 2 0 0 60 false ∷ own 3 0 1 60 true ∷ [])
     ∷ [])
     ≡ replicate 8 true
-unfolding set_body entry_bytes bytes_of records some legal ill_form twice marks
+unfolding set_body entry_bytes bytes_of records legal ill_form twice marks
 refused_lists = refl
 
 -- lists that it would not: of one, two and eight entries, for each kind of traffic, of both types, with P and without
@@ -170,12 +164,12 @@ accepted_lists : map (refusal18 0x1002)
     ∷ map (λ (n : ℕ). own n 0 0 60 false) (1 ∷ 2 ∷ 3 ∷ 4 ∷ 5 ∷ 6 ∷ 7 ∷ 8 ∷ [])
     ∷ [])
     ≡ replicate 4 false
-unfolding set_body entry_bytes bytes_of records some legal ill_form twice marks
+unfolding set_body entry_bytes bytes_of records legal ill_form twice marks
 accepted_lists = refl
 
 -- ---- the association afterwards
 -- "OLD SPI is the inbound SPI, which becomes the new one; the Update ID is the next own one, which rises by one.": whatever stands in each field
-after : (outbound inbound time aged credit next new : ℕ) (peer : PeerId) (preferred : Preference) (slots : List Slot) →
+after : (outbound inbound time aged credit next new : ℕ) (peer : Option ℕ) (preferred : Option ℕ) (slots : List Slot) →
     after_announcement (holding outbound inbound time aged credit peer next preferred slots) new
     ≡ holding outbound new time aged credit peer (next + 1) preferred slots
 unfolding after_announcement
@@ -197,16 +191,16 @@ order : map (λ (h : Announced). h.outcome)
     ∷ handled (with 0x1001 4294967295 0) list 2 0x1002 0 79
     ∷ handled (with 0x1001 4294967295 0) list 2 0x1002 0 80
     ∷ [])
-    ≡ Refused BadAssociation
-    ∷ Refused BadListSize
-    ∷ Refused BadListSize
-    ∷ Refused BadList
-    ∷ Refused BadInboundSpi
-    ∷ Refused NoUpdateIdLeft
-    ∷ Refused ShortBuffer
-    ∷ Accepted
+    ≡ Err BadAssociation
+    ∷ Err BadListSize
+    ∷ Err BadListSize
+    ∷ Err BadList
+    ∷ Err BadInboundSpi
+    ∷ Err NoUpdateIdLeft
+    ∷ Err ShortBuffer
+    ∷ (Ok tt)
     ∷ []
-unfolding handled refusal0 clashing clash announcement_bytes set_body entry_bytes parameter_bytes bytes_of records some legal ill_form twice marks after_announcement
+unfolding handled refusal0 clash announcement_bytes set_body entry_bytes parameter_bytes bytes_of records legal ill_form twice marks after_announcement
 order = refl
 
 -- a buffer of this length
@@ -215,16 +209,16 @@ buffer room = replicate room 0xff
 
 -- the whole of an answer: 56 bytes written, the inbound SPI 0x1002 and the next own Update ID 4; "Bytes past the reply are untouched."
 answered : (announcement_of found list 1 0x1002 0x0203 (buffer 58)
-    ≡ record { outcome = Accepted; written = 56; association = with 0x1002 4 0 })
+    ≡ record { outcome = (Ok tt); written = 56; association = with 0x1002 4 0 })
     × (buffer_after found list 1 0x1002 0x0203 (buffer 58) ≡ one_address ++ hex "ffff")
     × (buffer_after found list 2 0x1002 0x0203 (buffer 80) ≡ two_addresses)
-unfolding handled refusal0 clashing clash announcement_bytes set_body entry_bytes parameter_bytes bytes_of records some legal ill_form twice marks after_announcement
+unfolding handled refusal0 clash announcement_bytes set_body entry_bytes parameter_bytes bytes_of records legal ill_form twice marks after_announcement
 answered = (refl, refl, refl)
 
 -- "A refusal returns its number and zero reply bytes; association and buffer are as lent.": refusals 21, 18 and 17
-declined : (announcement_of found list 1 0x1002 0x0203 (buffer 55) ≡ record { outcome = Refused ShortBuffer; written = 0; association = found })
-    × (announcement_of found list 3 0x1002 0x0203 (buffer 300) ≡ record { outcome = Refused BadList; written = 0; association = found })
-    × (announcement_of found list 9 0x1002 0x0203 (buffer 300) ≡ record { outcome = Refused BadListSize; written = 0; association = found })
+declined : (announcement_of found list 1 0x1002 0x0203 (buffer 55) ≡ record { outcome = Err ShortBuffer; written = 0; association = found })
+    × (announcement_of found list 3 0x1002 0x0203 (buffer 300) ≡ record { outcome = Err BadList; written = 0; association = found })
+    × (announcement_of found list 9 0x1002 0x0203 (buffer 300) ≡ record { outcome = Err BadListSize; written = 0; association = found })
     × (buffer_after found list 1 0x1002 0x0203 (buffer 55) ≡ buffer 55)
-unfolding handled refusal0 clashing clash announcement_bytes set_body entry_bytes parameter_bytes bytes_of records some legal ill_form twice marks after_announcement
+unfolding handled refusal0 clash announcement_bytes set_body entry_bytes parameter_bytes bytes_of records legal ill_form twice marks after_announcement
 declined = (refl, refl, refl, refl)

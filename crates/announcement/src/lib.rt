@@ -4,9 +4,11 @@
 #![tactic(auto)]
 
 use address::Address;
-use association::{Association, Outcome};
+use association::Association;
+use refusal::Refusal;
 
-// An entry of our list: a locator that we announce. `kind` is its locator type.
+// An entry of our list: a locator that we announce. `kind` is its locator type. It and the traffic type are numbers, since refusal 18 is about those that a
+// host may hand in and nobody knows.
 #[derive(Clone, Copy)]
 pub struct OwnLocator {
     pub address: Address,
@@ -16,10 +18,10 @@ pub struct OwnLocator {
     pub preferred: bool,
 }
 
-// The answer to the call: how many bytes were written, and the association after it.
+// The answer to the call: how many bytes were written, 0 where it is refused, and the association after it; see clock's answer to a tick.
 #[derive(Clone, Copy)]
 pub struct Announcement {
-    pub outcome: Outcome,
+    pub outcome: Result<(), Refusal>,
     pub written: usize,
     pub association: Association,
 }

@@ -7,15 +7,14 @@ ghost use Rattle.update.specs.Messages as messages;
 use association::Association;
 use packet::EchoResponse;
 use refusal::Refusal;
-use update::{MessageAnswer, MessageOutcome};
+use update::{MessageAnswer, Received};
 
 // The answer to a refused message: nothing is written, and the association is as it was handed in.
 pub fn declined(a: Association, why: Refusal) -> MessageAnswer
     ensures { result ≡ messages.answer_of (messages.declined why a) }
 {
-    let outcome = MessageOutcome::Declined(why);
     MessageAnswer {
-        outcome,
+        outcome: Err(why),
         written: 0,
         checks: 0,
         keymat: 0,
@@ -27,16 +26,14 @@ pub fn declined(a: Association, why: Refusal) -> MessageAnswer
 fn replied(a: Association, echo: EchoResponse) -> MessageAnswer
     ensures { result ≡ messages.answer_of (messages.replied a echo) }
 {
-    let slots = a.slots;
-    let verified = verify::verify_all(slots, echo);
-    let mut association = a;
-    association.slots = verified;
+    let mut slots = a.slots;
+    verify::verify_all(&mut slots, echo);
     MessageAnswer {
-        outcome: MessageOutcome::Replied,
+        outcome: Ok(Received::Replied),
         written: 0,
         checks: 0,
         keymat: 0,
-        association,
+        association: Association { slots, ..a },
     }
 }
 
@@ -45,9 +42,8 @@ fn replied(a: Association, echo: EchoResponse) -> MessageAnswer
 pub fn handle_reply(a: Association, echo: EchoResponse) -> MessageAnswer
     ensures { result ≡ messages.answer_of (messages.handle_reply a echo) }
 {
-    let held = a.slots;
     // Refusal 8: the echo response answers no check.
-    if verify::is_unmatched(held, echo) {
+    if verify::is_unmatched(&a.slots, echo) {
         declined(a, Refusal::UnmatchedEcho)
     } else {
         replied(a, echo)

@@ -1,9 +1,9 @@
 -- Which answers refuse. Assumes nothing.
 use mathlib.Core.Bool.{Bool, true, false}
-use Rattle.association.specs.declared.Outcome.{Outcome}
-use Rattle.association.specs.declared.Outcome.TheVariants.{Accepted, Refused}
+use Rattle.std.specs.Prelude.{Err, Ok, Result, ⊤}
+use Rattle.refusal.specs.declared.Refusal.{Refusal}
 
 -- the call is refused
-abbrev pub is_refused : Outcome → Bool
-is_refused Accepted = false
-is_refused (Refused why) = true
+abbrev pub is_refused : Result ⊤ Refusal → Bool
+is_refused (Ok tt) = false
+is_refused (Err why) = true

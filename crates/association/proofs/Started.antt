@@ -1,23 +1,21 @@
 -- What a start makes. Assumes nothing.
 use mathlib.Core.Path.{◌≡◌, refl}
 use mathlib.Core.Bool.{Bool, true, false, not, cond, ◌||◌}
-use mathlib.Core.Option.{none, some}
 use Prim.Native.Nat.{ℕ, ◌<◌}
 use lib.Dec.{leb, eqb}
 use native.Mathlib.Omega.{arith}
 use borrow.Author.Tests.{leb-false}
 use Rattle.boolean.proofs.Laws.{or_false_left}
-use Rattle.octets.specs.Records as records
 use Rattle.address.specs.declared.Address.{Address}
 use Rattle.address.specs.Rules.{same_address, legal}
 use Rattle.slot.specs.declared.Status.TheVariants.{Active}
 use Rattle.slot.specs.Found.{or_else, status_in}
 use Rattle.slot.specs.Clashes.{clash}
-use Rattle.slots.specs.Rules.{clashing}
 use Rattle.credit.specs.Clock.{time_limit}
 use Rattle.association.specs.Form.{refusal0}
 use Rattle.association.specs.Start.{unusable_spi, refusal16, no_association, start_slots, started}
 use Rattle.association.proofs.Sound.{not_refused, Formed}
+use Rattle.std.specs.Prelude.{None, Some}
 
 module _ (time outbound inbound : ℕ) (address : Address) (lifetime : ℕ) where
   abbrev bad : Bool
@@ -32,7 +30,7 @@ module _ (time outbound inbound : ℕ) (address : Address) (lifetime : ℕ) wher
 
   -- refusal 0 does not refuse what an accepted start makes
   pub started_formed : bad ≡ false → Formed (started time outbound inbound address lifetime)
-  unfolding clashing records.some clash
+  unfolding clash
   started_formed p = record {
     whole = refl;
     unrefused =
@@ -41,11 +39,11 @@ module _ (time outbound inbound : ℕ) (address : Address) (lifetime : ℕ) wher
   }
 
   -- an accepted start holds its address ACTIVE, and no other
-  pub started_status : (x : Address) → status_in x (start_slots time address lifetime) ≡ cond (same_address x address) (some Active) none
+  pub started_status : (x : Address) → status_in x (start_slots time address lifetime) ≡ cond (same_address x address) (Some Active) None
   unfolding status_in
   started_status x = go (same_address x address)
     where
-      go : (b : Bool) → or_else (cond b (some Active) none) none ≡ cond b (some Active) none
+      go : (b : Bool) → or_else (cond b (Some Active) None) None ≡ cond b (Some Active) None
       go true = refl
       go false = refl
 

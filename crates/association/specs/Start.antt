@@ -1,17 +1,15 @@
 -- "Start takes time, two 32-bit SPIs, an address and a 32-bit lifetime. Slot 0 becomes ACTIVE, traffic type 0, preferred. Credit is 0; last
 -- ageing is the start time."
-use Rattle.std.specs.Prelude.{ℕ, ◌-◌, Bool, not, cond, ◌||◌, List, ◌∷◌, leb, eqb, replicate}
+use Rattle.std.specs.Prelude.{ℕ, ◌-◌, Bool, not, cond, ◌||◌, List, ◌∷◌, leb, eqb, replicate, None, Some}
 use Rattle.address.specs.declared.Address.{Address}
 use Rattle.address.specs.Rules.{legal}
 use Rattle.slot.specs.declared.Status.TheVariants.{Active}
 use Rattle.slot.specs.declared.Slot.{Slot}
 use Rattle.slot.specs.Found.{slot_count, empty_slot, slot_of}
 use Rattle.slot.specs.Expiry.{expiry_at}
-use Rattle.path.specs.declared.Preference.TheVariants.{NoPreference, Prefers}
 use Rattle.path.specs.Choices.{traffic_both}
 use Rattle.credit.specs.Clock.{time_limit}
 use Rattle.association.specs.Form.{accepted, refused}
-use Rattle.association.specs.declared.PeerId.TheVariants.{NoneSeen}
 use Rattle.association.specs.declared.Association.{Association}
 use Rattle.association.specs.declared.Answer.{Answer}
 
@@ -36,9 +34,9 @@ no_association = record {
   time = time_limit;
   aged = 0;
   credit = 0;
-  peer = NoneSeen;
+  peer = None;
   next = 0;
-  preferred = NoPreference;
+  preferred = None;
   slots = no_slots;
 }
 
@@ -55,9 +53,9 @@ started time outbound inbound address lifetime = record {
   time = time;
   aged = time;
   credit = 0;
-  peer = NoneSeen;
+  peer = None;
   next = 0;
-  preferred = Prefers 0;
+  preferred = Some 0;
   slots = start_slots time address lifetime;
 }
 

@@ -3,26 +3,23 @@
 
 ghost use Rattle.std.specs.Prelude.{◌≡◌, ◌<◌};
 ghost use Rattle.credit.specs.Clock.{time_limit};
-ghost use Rattle.association.specs.Form.{beyond, refusal0};
+ghost use Rattle.association.specs.Form.{refusal0};
 ghost use Rattle.association.specs.Start.{unusable_spi, refusal16, no_association, started, start_of};
 
 use address::Address;
 use credit::{CREDIT_LIMIT, TIME_LIMIT};
-use path::{Preference, TRAFFIC_BOTH};
+use path::TRAFFIC_BOTH;
 use refusal::Refusal;
-use slot::{Holding, Locator, SLOT_COUNT, Slot, Status};
+use slot::{Locator, SLOT_COUNT, Slot, Status};
+
+// A slot that holds nothing.
+const EMPTY_SLOT: Slot = Slot { holding: None };
 
 // One past the last Update ID: 2^32.
 pub const ID_LIMIT: u64 = 4294967296;
 
-// The highest Update ID of the peer, or none was seen.
-#[derive(Clone, Copy)]
-pub enum PeerId {
-    NoneSeen,
-    Highest(u32),
-}
-
-// An association with one peer. `aged` is the time of the last ageing, and `next` the next own Update ID.
+// An association with one peer. `aged` is the time of the last ageing, `peer` the highest Update ID of the peer that was seen, `next` the next own Update ID,
+// and `preferred` the slot that the peer prefers.
 #[derive(Clone, Copy)]
 pub struct Association {
     pub outbound: u32,
@@ -30,56 +27,31 @@ pub struct Association {
     pub time: u64,
     pub aged: u64,
     pub credit: u64,
-    pub peer: PeerId,
+    pub peer: Option<u32>,
     pub next: u64,
-    pub preferred: Preference,
+    pub preferred: Option<usize>,
     pub slots: [Slot; SLOT_COUNT],
 }
 
-// A call is accepted, or refused by the reason that the refusal names.
-#[derive(Clone, Copy)]
-pub enum Outcome {
-    Accepted,
-    Refused(Refusal),
-}
-
-// The answer to a call, with the association after it.
+// The answer to a call: accepted, or refused by the reason that the refusal names, with the association after it.
+// It stands beside the outcome and not in it, since a refused call gives the association back, and a refused start one that every call refuses.
 #[derive(Clone, Copy)]
 pub struct Answer {
-    pub outcome: Outcome,
+    pub outcome: Result<(), Refusal>,
     pub association: Association,
-}
-
-// The preferred slot is none of the slots.
-fn is_beyond(preferred: Preference) -> bool
-    ensures { result ≡ beyond preferred }
-{
-    match preferred {
-        Preference::NoPreference => false,
-        Preference::Prefers(n) => SLOT_COUNT <= n,
-    }
 }
 
 // Refusal 0: no call makes such an association.
 #[tactic(auto, unfolding(crate::specs::Form::refusal0))]
-pub fn is_bad_association(a: Association) -> bool
-    ensures { result ≡ refusal0 a }
+pub fn is_bad_association(a: &Association) -> bool
+    ensures { result ≡ refusal0 a.now }
 {
-    let preferred = a.preferred;
-    let slots = a.slots;
-    boolean::either(
-        TIME_LIMIT <= a.time,
-        boolean::either(
-            a.time < a.aged,
-            boolean::either(
-                CREDIT_LIMIT < a.credit,
-                boolean::either(
-                    ID_LIMIT < a.next,
-                    boolean::either(is_beyond(preferred), slots::any_bad(slots, a.time)),
-                ),
-            ),
-        ),
-    )
+    TIME_LIMIT <= a.time
+        || a.time < a.aged
+        || CREDIT_LIMIT < a.credit
+        || ID_LIMIT < a.next
+        || a.preferred.is_some_and(|n| SLOT_COUNT <= n)
+        || slots::any_bad(&a.slots, a.time)
 }
 
 // An SPI that no association may use.
@@ -93,39 +65,32 @@ pub fn is_unusable_spi(spi: u32) -> bool
 fn is_bad_start(time: u64, outbound: u32, inbound: u32, address: Address, lifetime: u32) -> bool
     ensures { result ≡ refusal16 time outbound inbound address lifetime }
 {
-    boolean::either(
-        TIME_LIMIT <= time,
-        boolean::either(
-            is_unusable_spi(outbound),
-            boolean::either(
-                is_unusable_spi(inbound),
-                boolean::either(lifetime == 0, !address::is_legal(address)),
-            ),
-        ),
-    )
+    TIME_LIMIT <= time
+        || is_unusable_spi(outbound)
+        || is_unusable_spi(inbound)
+        || lifetime == 0
+        || !address::is_legal(address)
 }
 
 // What stands where there is no association. Every call refuses it with 0.
 fn no_association() -> Association
     ensures { result ≡ no_association }
 {
-    let empty = Slot {
-        holding: Holding::Empty,
-    };
     Association {
         outbound: 0,
         inbound: 0,
         time: TIME_LIMIT,
         aged: 0,
         credit: 0,
-        peer: PeerId::NoneSeen,
+        peer: None,
         next: 0,
-        preferred: Preference::NoPreference,
-        slots: [empty; SLOT_COUNT],
+        preferred: None,
+        slots: [EMPTY_SLOT; SLOT_COUNT],
     }
 }
 
-// A new association: slot 0 holds the address, ACTIVE and preferred.
+// A new association: slot 0 holds the address, ACTIVE and preferred. Its five arguments are those of `start`, as a host hands them in, and that the time is
+// below its limit was tested there.
 fn new_association(
     time: u64,
     outbound: u32,
@@ -136,15 +101,12 @@ fn new_association(
     requires { time < time_limit }
     ensures { result ≡ started time outbound inbound address lifetime }
 {
-    let empty = Slot {
-        holding: Holding::Empty,
-    };
-    let mut slots = [empty; SLOT_COUNT];
+    let mut slots = [EMPTY_SLOT; SLOT_COUNT];
     slots[0] = Slot {
-        holding: Holding::Held(Locator {
+        holding: Some(Locator {
             address,
             traffic: TRAFFIC_BOTH,
-            expiry: time + lifetime as u64,
+            expiry: time + u64::from(lifetime),
             status: Status::Active,
         }),
     };
@@ -154,9 +116,9 @@ fn new_association(
         time,
         aged: time,
         credit: 0,
-        peer: PeerId::NoneSeen,
+        peer: None,
         next: 0,
-        preferred: Preference::Prefers(0),
+        preferred: Some(0),
         slots,
     }
 }
@@ -167,15 +129,13 @@ pub fn start(time: u64, outbound: u32, inbound: u32, address: Address, lifetime:
     ensures { result ≡ start_of time outbound inbound address lifetime }
 {
     if is_bad_start(time, outbound, inbound, address, lifetime) {
-        let none = no_association();
         return Answer {
-            outcome: Outcome::Refused(Refusal::BadStart),
-            association: none,
+            outcome: Err(Refusal::BadStart),
+            association: no_association(),
         };
     }
-    let association = new_association(time, outbound, inbound, address, lifetime);
     Answer {
-        outcome: Outcome::Accepted,
-        association,
+        outcome: Ok(()),
+        association: new_association(time, outbound, inbound, address, lifetime),
     }
 }

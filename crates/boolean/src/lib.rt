@@ -1,5 +1,5 @@
-// Conjunction and disjunction as functions: a rule that is written as nested calls of these is one equation to prove.
-// Depends on nothing.
+// Conjunction and disjunction as functions. They stay as they are, since documents and edits name them; the crates above write Rust's `&&` and `||`, and
+// take from here the laws of tests. Depends on nothing.
 #![tactic(auto)]
 
 ghost use Rattle.std.specs.Prelude.{◌≡◌, ◌&&◌, ◌||◌};

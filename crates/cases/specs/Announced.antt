@@ -1,19 +1,16 @@
 -- Order 1: for each of its refusals an input that earns it and no other, accepted announcements and Checks, and inputs that earn two refusals, to show their
 -- order. Refusal 20 and the last own Update ID, which no trace reaches, are among them.
-use Rattle.std.specs.Prelude.{ℕ, ◌^◌, ◌≡◌, refl, Bool, true, false, List, [], ◌∷◌, ◌++◌, map, replicate}
+use Rattle.std.specs.Prelude.{ℕ, ◌^◌, ◌≡◌, refl, Bool, true, false, List, [], ◌∷◌, ◌++◌, map, replicate, Err, Ok, Some}
 use Rattle.refusal.specs.Table.{refusal}
 use Rattle.octets.specs.ExamplesHex.{hex}
 use Rattle.parameter.specs.Types.{echo_request_signed}
 use Rattle.parameter.specs.Written.{parameter_bytes}
 use Rattle.slot.specs.declared.Status.TheVariants.{Active}
 use Rattle.slot.specs.Found.{empty_slot}
-use Rattle.path.specs.declared.Preference.TheVariants.{Prefers}
-use Rattle.association.specs.declared.PeerId.TheVariants.{Highest}
 use Rattle.association.specs.declared.Association.{Association}
-use Rattle.association.specs.declared.Outcome.TheVariants.{Accepted, Refused}
-use Rattle.update.specs.declared.MessageOutcome.TheVariants.{Responded, Repeated}
 use Rattle.announcement.specs.declared.OwnLocator.{OwnLocator}
 use Rattle.announcement.specs.Announcements.{announcement_of, buffer_after}
+use Rattle.update.specs.declared.Received.TheVariants.{Repeated, Responded}
 use Rattle.history.specs.ExamplesUnfolded.{calls}
 use Rattle.cases.specs.Packets.{packet_of, esp, id_of, echo, address, locator, set_of}
 use Rattle.cases.specs.Held.{holding, checked}
@@ -28,9 +25,9 @@ with credit inbound peer next = record {
   time = 100;
   aged = 97;
   credit = credit;
-  peer = Highest peer;
+  peer = Some peer;
   next = next;
-  preferred = Prefers 0;
+  preferred = Some 0;
   slots = holding 1 0 130 Active ∷ holding 2 0 130 (checked 9 2) ∷ replicate 6 empty_slot;
 }
 
@@ -63,11 +60,11 @@ announces a list count inbound buffer = announced (announcement_of a list count 
 
 -- it is accepted, leaves this association, and has written so many bytes
 abbrev tells : (written : ℕ) → Association → (buffer : List ℕ) → Seen
-tells written a buffer = announced (record { outcome = Accepted; written = written; association = a }) buffer
+tells written a buffer = announced (record { outcome = Ok tt; written = written; association = a }) buffer
 
 -- it is refused by this number, and all is as lent
 abbrev refuses : (why : ℕ) → Association → (buffer : List ℕ) → Seen
-refuses why a buffer = announced (record { outcome = Refused (refusal why); written = 0; association = a }) buffer
+refuses why a buffer = announced (record { outcome = Err (refusal why); written = 0; association = a }) buffer
 
 -- one entry of type 0 for data and 300 seconds with P, with another new inbound SPI
 abbrev one : List OwnLocator
@@ -141,16 +138,16 @@ table =
     ∷ (announces (used (2 ^ 32)) one 1 0x1002 [] gives refuses 20 (used (2 ^ 32)) [])
     -- a Check gets "an ACK of the peer's ID and an echo response with the same opaque bytes"
     ∷ (brings (id_of 7 ++ request 9)
-    gives told Responded 24 0 0 (with 1000 0x1001 7 3) (hex "01c10004 00000007 03c10009 abababab abababab ab000000" ++ replicate 360 0xff))
+    gives told (Ok Responded) 24 0 0 (with 1000 0x1001 7 3) (hex "01c10004 00000007 03c10009 abababab abababab ab000000" ++ replicate 360 0xff))
     -- with ESP_INFO, which "is not judged further": neither of its SPIs is known here
     ∷ (brings (esp 9 0x7777 0 ++ (id_of 7 ++ request 0))
-    gives told Responded 16 0 0 (with 1000 0x1001 7 3) (hex "01c10004 00000007 03c10000 00000000" ++ replicate 368 0xff))
+    gives told (Ok Responded) 16 0 0 (with 1000 0x1001 7 3) (hex "01c10004 00000007 03c10000 00000000" ++ replicate 368 0xff))
     -- "up to 64 of them"
     ∷ (brings (id_of 7 ++ request 64)
-    gives told Responded 80 0 0 (with 1000 0x1001 7 3) (hex "01c10004 00000007 03c10040" ++ (replicate 64 0xab ++ (replicate 4 0 ++ replicate 304 0xff))))
+    gives told (Ok Responded) 80 0 0 (with 1000 0x1001 7 3) (hex "01c10004 00000007 03c10040" ++ (replicate 64 0xab ++ (replicate 4 0 ++ replicate 304 0xff))))
     -- "a Repeated Check is answered with the bytes it would get if new and changes nothing"
     ∷ (brings (id_of 6 ++ request 9)
-    gives told Repeated 24 0 0 found (hex "01c10004 00000006 03c10009 abababab abababab ab000000" ++ replicate 360 0xff))
+    gives told (Ok Repeated) 24 0 0 found (hex "01c10004 00000006 03c10009 abababab abababab ab000000" ++ replicate 360 0xff))
     -- 22: "Opaque over 64"; "A Check falls under row 7 as a Move does"
     ∷ (brings (id_of 7 ++ request 65) gives denies 22)
     ∷ (brings (id_of 5 ++ request 9) gives denies 7)

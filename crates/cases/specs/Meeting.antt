@@ -1,7 +1,6 @@
 -- Two of our associations change addresses with each other: RFC 8046, section 3.2.1, with the SPI changed. We announce address 2, the peer checks it, we
 -- answer, and it is ACTIVE there.
-use Rattle.std.specs.Prelude.{ℕ, ◌+◌, ◌≡◌, refl, true, List, [], ◌∷◌, map, take, replicate}
-use Rattle.std.proofs.Math.Option.{some}
+use Rattle.std.specs.Prelude.{ℕ, ◌+◌, ◌≡◌, refl, true, List, [], ◌∷◌, map, take, replicate, Ok, Some}
 use Rattle.slot.specs.declared.Status.TheVariants.{Active}
 use Rattle.association.specs.declared.Association.{Association}
 use Rattle.association.specs.Start.{started}
@@ -9,7 +8,7 @@ use Rattle.announcement.specs.declared.OwnLocator.{OwnLocator}
 use Rattle.announcement.specs.Announcements as announcements
 use Rattle.update.specs.Messages.{message_of, buffer_after}
 use Rattle.update.specs.declared.MessageAnswer.{MessageAnswer}
-use Rattle.update.specs.declared.MessageOutcome.TheVariants.{Moved, Replied, Responded}
+use Rattle.update.specs.declared.Received.TheVariants.{Moved, Replied, Responded}
 use Rattle.history.specs.ExamplesUnfolded.{calls}
 use Rattle.cases.specs.Packets.{packet_of, address}
 use Rattle.cases.specs.Held.{checked}
@@ -60,11 +59,11 @@ abbrev response : List ℕ
 response = writes waiting check
 
 -- each is accepted; address 2 is UNVERIFIED with the peer, and then ACTIVE
-changes : ((hears peers announcement).outcome ≡ Moved)
-    × (status_after (address 2) checking ≡ status (some (checked 0x51 0)))
-    × ((hears waiting check).outcome ≡ Responded)
-    × ((hears checking response).outcome ≡ Replied)
-    × (status_after (address 2) (hears checking response).association ≡ status (some Active))
+changes : ((hears peers announcement).outcome ≡ Ok Moved)
+    × (status_after (address 2) checking ≡ status (Some (checked 0x51 0)))
+    × ((hears waiting check).outcome ≡ Ok Responded)
+    × ((hears checking response).outcome ≡ Ok Replied)
+    × (status_after (address 2) (hears checking response).association ≡ status (Some Active))
     × (checking.outbound ∷ waiting.inbound ∷ [] ≡ 0x1002 ∷ 0x1002 ∷ [])
 unfolding calls
 changes = (refl, refl, refl, refl, refl, refl)

@@ -1,19 +1,16 @@
 -- For each refusal an input that earns it and no other; accepted messages; and inputs that earn two refusals, to show their order.
-use Rattle.std.specs.Prelude.{ℕ, ◌^◌, ◌≡◌, refl, true, false, List, [], ◌∷◌, ◌++◌, map, replicate}
-use Rattle.std.proofs.Math.Option.{some}
+use Rattle.std.specs.Prelude.{ℕ, ◌^◌, ◌≡◌, refl, true, false, List, [], ◌∷◌, ◌++◌, map, replicate, None, Ok, Some}
 use Rattle.parameter.specs.Written.{parameter_bytes}
 use Rattle.slot.specs.declared.Status.TheVariants.{Active, Deprecated}
 use Rattle.slot.specs.declared.Slot.{Slot}
 use Rattle.slot.specs.Found.{empty_slot}
-use Rattle.path.specs.declared.Preference.TheVariants.{NoPreference, Prefers}
-use Rattle.association.specs.declared.PeerId.TheVariants.{Highest}
 use Rattle.association.specs.declared.Association.{Association}
 use Rattle.association.specs.Form.{refused}
 use Rattle.association.specs.Start.{no_association, start_of}
 use Rattle.payload.specs.Calls.{arrival_of, denied, send_of}
 use Rattle.reply_form.specs.Replies.{checks_bytes}
-use Rattle.update.specs.declared.MessageOutcome.TheVariants.{Moved, Replied, Repeated}
 use Rattle.update.specs.Messages.{message_of}
+use Rattle.update.specs.declared.Received.TheVariants.{Moved, Repeated, Replied}
 use Rattle.history.specs.ExamplesUnfolded.{calls}
 use Rattle.cases.specs.Packets.{packet_of, esp, id_of, echo, address, locator, bound, set_of, keymat_index, move_parts, move_of, echoing_move, reply_of}
 use Rattle.cases.specs.Held.{holding, checked}
@@ -36,9 +33,9 @@ with credit peer next preferred slots = record {
   time = 100;
   aged = 97;
   credit = credit;
-  peer = Highest peer;
+  peer = Some peer;
   next = next;
-  preferred = Prefers preferred;
+  preferred = Some preferred;
   slots = slots;
 }
 
@@ -164,7 +161,7 @@ relisted =
 
 -- Repeated: the ACK of Update ID 6, and nothing changed
 abbrev repeats : Seen
-repeats = told Repeated 8 0 0 found (1 ∷ 0xc1 ∷ 0 ∷ 4 ∷ 0 ∷ 0 ∷ 0 ∷ 6 ∷ replicate 376 0xff)
+repeats = told (Ok Repeated) 8 0 0 found (1 ∷ 0xc1 ∷ 0 ∷ 4 ∷ 0 ∷ 0 ∷ 0 ∷ 6 ∷ replicate 376 0xff)
 
 -- ---- the table
 -- inputs and their answers
@@ -172,21 +169,21 @@ abbrev table : List Case
 unfolding calls
 table =
     -- an accepted Move: "Peer ID 7, own ID 3, inbound SPI 0x1001, nonce 0102030405060708, one check"
-    (brings good gives told Moved 48 1 keymat_index moved (one_check ++ replicate 336 0xff))
+    (brings good gives told (Ok Moved) 48 1 keymat_index moved (one_check ++ replicate 336 0xff))
     -- one that echoes, with two checks
     ∷ (brings (echoing_move outbound outbound 7 (plain 1 ∷ plain 2 ∷ plain 4 ∷ plain 3 ∷ []) 9)
-    gives told Moved 96 2 keymat_index relisted (checks_bytes 0x1001 7 3 nonces 0 2 ++ replicate 288 0xff))
+    gives told (Ok Moved) 96 2 keymat_index relisted (checks_bytes 0x1001 7 3 nonces 0 2 ++ replicate 288 0xff))
     -- "What follows in the same message may retire it again.": the echo turns address 2 ACTIVE, the new SPI DEPRECATED, and listed it has a new check
     ∷ (status_after (address 2) (message_of found (echoing_move outbound other 7 (bound other 2 ∷ []) 9) true nonces buffer).association
-    gives status (some (checked 0x0102030405060708 3)))
+    gives status (Some (checked 0x0102030405060708 3)))
     -- "A preference for a refilled slot is dropped.", and another stays; "The locator with P becomes preferred"
-    ∷ (preferring 2 0 gives prefers NoPreference)
-    ∷ (preferring 0 0 gives prefers (Prefers 0))
-    ∷ (preferring 0 1 gives prefers (Prefers 2))
-    ∷ (preferring 2 1 gives prefers (Prefers 2))
+    ∷ (preferring 2 0 gives prefers None)
+    ∷ (preferring 0 0 gives prefers (Some 0))
+    ∷ (preferring 0 1 gives prefers (Some 2))
+    ∷ (preferring 2 1 gives prefers (Some 2))
     -- an accepted Reply; and one with eight equal nonces, one of them outstanding: refusal 10 is "for a Move"
-    ∷ (brings (reply_of 9) gives told Replied 0 0 0 replied buffer)
-    ∷ (message found (reply_of 9) true (replicate 8 9) buffer gives told Replied 0 0 0 replied buffer)
+    ∷ (brings (reply_of 9) gives told (Ok Replied) 0 0 0 replied buffer)
+    ∷ (message found (reply_of 9) true (replicate 8 9) buffer gives told (Ok Replied) 0 0 0 replied buffer)
     -- "A Move whose ID equals the highest seen is Repeated", also one that refusals 8 and 9 would refuse
     ∷ (brings (move_of outbound outbound 6 listed) gives repeats)
     ∷ (brings (echoing_move other outbound 6 listed 10) gives repeats)
@@ -224,10 +221,10 @@ table =
     -- 11: "next own ID + new checks over 2^32"; a Move without new checks is accepted, and the last own ID may be used
     ∷ (message (used (2 ^ 32)) good true nonces buffer gives declined 11 (used (2 ^ 32)) buffer)
     ∷ (message (used (2 ^ 32)) (move_of outbound outbound 7 (plain 1 ∷ [])) true nonces buffer
-    gives told Moved 8 0 keymat_index (with 1000 7 (2 ^ 32) 0 (holding 1 0 160 Active ∷ holding 2 0 130 Deprecated ∷ holding 3 0 130 Deprecated ∷ replicate 5 empty_slot))
+    gives told (Ok Moved) 8 0 keymat_index (with 1000 7 (2 ^ 32) 0 (holding 1 0 160 Active ∷ holding 2 0 130 Deprecated ∷ holding 3 0 130 Deprecated ∷ replicate 5 empty_slot))
     (1 ∷ 0xc1 ∷ 0 ∷ 4 ∷ 0 ∷ 0 ∷ 0 ∷ 7 ∷ replicate 376 0xff))
     ∷ (status_after (address 4) (message_of (used 4294967295) good true nonces buffer).association
-    gives status (some (checked 0x0102030405060708 4294967295)))
+    gives status (Some (checked 0x0102030405060708 4294967295)))
     -- 12: "time before the stored time, or 2^40 or more"
     ∷ (tick found 99 lent gives stopped 12 found lent)
     ∷ (tick found (2 ^ 40) lent gives stopped 12 found lent)

@@ -1,23 +1,19 @@
 -- The cases that document 01 marks to be "proved together from the definitions, as one table under one claim", with order 3's in the place of one.
-use Rattle.std.specs.Prelude.{ℕ, ◌≡◌, refl, true, List, [], ◌∷◌, ◌++◌, map, length, take, replicate}
-use Rattle.std.proofs.Math.Option.{some}
+use Rattle.std.specs.Prelude.{ℕ, ◌≡◌, refl, true, List, [], ◌∷◌, ◌++◌, map, length, take, replicate, None, Ok, Option, Some}
 use Rattle.parameter.specs.Parameters.{takes}
 use Rattle.slot.specs.declared.Status.{Status}
 use Rattle.slot.specs.declared.Status.TheVariants.{Active, Deprecated}
 use Rattle.slot.specs.declared.Slot.{Slot}
 use Rattle.slot.specs.Found.{empty_slot}
-use Rattle.path.specs.declared.Preference.TheVariants.{Prefers}
 use Rattle.credit.specs.Clock.{aged_by}
-use Rattle.association.specs.declared.PeerId.{PeerId}
-use Rattle.association.specs.declared.PeerId.TheVariants.{NoneSeen, Highest}
 use Rattle.association.specs.declared.Association.{Association}
 use Rattle.association.specs.Form.{accepted}
 use Rattle.association.specs.Start.{start_of}
 use Rattle.payload.specs.Calls.{arrival_of, granted, denied, send_of}
 use Rattle.clock.specs.Ticks.{tick_of}
 use Rattle.reply_form.specs.Replies.{checks_bytes}
-use Rattle.update.specs.declared.MessageOutcome.TheVariants.{Moved}
 use Rattle.update.specs.Messages.{message_of}
+use Rattle.update.specs.declared.Received.TheVariants.{Moved}
 use Rattle.history.specs.ExamplesUnfolded.{calls}
 use Rattle.cases.specs.Packets.{packet_of, address, locator, keymat_index, move_of}
 use Rattle.cases.specs.Held.{held, checked}
@@ -25,7 +21,7 @@ use Rattle.cases.specs.Tables.{Seen, number, status, answer, sent, Case, ◌give
 
 -- ---- what is handed in
 -- an association with the inbound SPI 0x1001
-abbrev with : (time aged credit next : ℕ) → PeerId → List Slot → Association
+abbrev with : (time aged credit next : ℕ) → Option ℕ → List Slot → Association
 with time aged credit next peer slots = record {
   outbound = 0x2001;
   inbound = 0x1001;
@@ -34,7 +30,7 @@ with time aged credit next peer slots = record {
   credit = credit;
   peer = peer;
   next = next;
-  preferred = Prefers 0;
+  preferred = Some 0;
   slots = slots;
 }
 
@@ -44,11 +40,11 @@ alone s = held 1 s ∷ replicate 7 empty_slot
 
 -- at time 100, with address 1 UNVERIFIED
 abbrev waiting : (credit : ℕ) → Association
-waiting credit = with 100 100 credit 3 NoneSeen (alone (checked 9 2))
+waiting credit = with 100 100 credit 3 None (alone (checked 9 2))
 
 -- with address 1 ACTIVE
 abbrev verified : (time aged credit : ℕ) → Association
-verified time aged credit = with time aged credit 3 NoneSeen (alone Active)
+verified time aged credit = with time aged credit 3 None (alone Active)
 
 -- what a message below finds: "own ID 3, inbound SPI 0x1001"
 abbrev found : Association
@@ -90,7 +86,7 @@ left a packet = (message_of a packet true nonces buffer).association
 -- after eight locators: address 1 stays ACTIVE, and each of the others has a check
 abbrev eight : Association
 eight =
-    with 100 100 1000 10 (Highest 7)
+    with 100 100 1000 10 (Some 7)
     (held 1 Active
     ∷ held 2 (checked 0x0102030405060708 3)
     ∷ held 3 (checked 11 4)
@@ -103,7 +99,7 @@ eight =
 
 -- after address 1 alone: the peer's Update ID is stored
 abbrev acknowledged : Association
-acknowledged = with 100 100 1000 3 (Highest 7) (alone Active)
+acknowledged = with 100 100 1000 3 (Some 7) (alone Active)
 
 -- ---- the table
 -- document 01's cases, each under its line
@@ -128,25 +124,25 @@ table =
     ∷ (tick (verified 117 115 669) 119 lent gives passed 0 (verified 119 115 669) lent)
     ∷ (tick (verified 119 115 669) 120 lent gives passed 0 (verified 120 120 585) lent)
     -- "Lifetime 60 set at 100: kept at 159, DEPRECATED at 160.": set by a start, and by a Move where a start set 30
-    ∷ (status_after (address 1) (tick_of (started_for 60) 159 lent).association gives status (some Active))
-    ∷ (status_after (address 1) (tick_of (started_for 60) 160 lent).association gives status (some Deprecated))
-    ∷ (status_after (address 1) (tick_of (left (started_for 30) (listing 1 0x2001)) 159 lent).association gives status (some Active))
-    ∷ (status_after (address 1) (tick_of (left (started_for 30) (listing 1 0x2001)) 160 lent).association gives status (some Deprecated))
+    ∷ (status_after (address 1) (tick_of (started_for 60) 159 lent).association gives status (Some Active))
+    ∷ (status_after (address 1) (tick_of (started_for 60) 160 lent).association gives status (Some Deprecated))
+    ∷ (status_after (address 1) (tick_of (left (started_for 30) (listing 1 0x2001)) 159 lent).association gives status (Some Active))
+    ∷ (status_after (address 1) (tick_of (left (started_for 30) (listing 1 0x2001)) 160 lent).association gives status (Some Deprecated))
     -- "L of 24, 28, 56, 224 take 32, 32, 64, 232 bytes."
     ∷ (number (takes 24) gives number 32)
     ∷ (number (takes 28) gives number 32)
     ∷ (number (takes 56) gives number 64)
     ∷ (number (takes 224) gives number 232)
     -- "Eight locators pass; nine give 6.": seven of the eight are new, and the last 48 bytes of the buffer are untouched
-    ∷ (brings (listing 8 0x2001) gives told Moved 336 7 keymat_index eight (checks_bytes 0x1001 7 3 nonces 0 7 ++ replicate 48 0xff))
+    ∷ (brings (listing 8 0x2001) gives told (Ok Moved) 336 7 keymat_index eight (checks_bytes 0x1001 7 3 nonces 0 7 ++ replicate 48 0xff))
     ∷ (brings (listing 9 0x2001) gives declined 6 found buffer)
     -- "A 40-byte packet without parameters, authentic: 5."
     ∷ (number (length (packet_of [])) gives number 40)
     ∷ (brings (packet_of []) gives declined 5 found buffer)
     -- "Same message listing only an ACTIVE address: 01c10004 00000007."
-    ∷ (brings (listing 1 0x2001) gives told Moved 8 0 keymat_index acknowledged (1 ∷ 0xc1 ∷ 0 ∷ 4 ∷ 0 ∷ 0 ∷ 0 ∷ 7 ∷ replicate 376 0xff))
+    ∷ (brings (listing 1 0x2001) gives told (Ok Moved) 8 0 keymat_index acknowledged (1 ∷ 0xc1 ∷ 0 ∷ 4 ∷ 0 ∷ 0 ∷ 0 ∷ 7 ∷ replicate 376 0xff))
     -- "An ACTIVE address listed with a new SPI: UNVERIFIED."
-    ∷ (status_after (address 1) (left found (listing 1 0x2002)) gives status (some (checked 0x0102030405060708 3)))
+    ∷ (status_after (address 1) (left found (listing 1 0x2002)) gives status (Some (checked 0x0102030405060708 3)))
     ∷ []
 
 -- every case agrees with the definitions

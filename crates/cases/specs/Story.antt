@@ -1,14 +1,11 @@
 -- Runs of calls from a start: an answer that comes too late, one that comes in time, and one to a check that was replaced; a check that is lost and sent again, and
 -- one that is given up.
-use Rattle.std.specs.Prelude.{ℕ, ◌+◌, ◌≡◌, refl, true, List, [], ◌∷◌, ◌++◌, map, replicate}
-use Rattle.std.proofs.Math.Option.{Option, none, some}
+use Rattle.std.specs.Prelude.{ℕ, ◌+◌, ◌≡◌, refl, true, List, [], ◌∷◌, ◌++◌, map, replicate, None, Option, Some}
 use Rattle.octets.specs.ExamplesHex.{hex}
 use Rattle.refusal.specs.Table.{refusal}
 use Rattle.slot.specs.declared.Status.{Status}
 use Rattle.slot.specs.declared.Status.TheVariants.{Active, Deprecated}
 use Rattle.slot.specs.Found.{empty_slot}
-use Rattle.path.specs.declared.Preference.TheVariants.{Prefers}
-use Rattle.association.specs.declared.PeerId.TheVariants.{Highest}
 use Rattle.association.specs.declared.Association.{Association}
 use Rattle.association.specs.Form.{accepted}
 use Rattle.association.specs.Start.{started, start_of}
@@ -83,9 +80,9 @@ with peer next s = record {
   time = 100;
   aged = 100;
   credit = 0;
-  peer = Highest peer;
+  peer = Some peer;
   next = next;
-  preferred = Prefers 0;
+  preferred = Some 0;
   slots = held 1 Active ∷ held 2 s ∷ replicate 6 empty_slot;
 }
 
@@ -105,11 +102,11 @@ starts = refl
 
 -- the answer comes too late: the second Move retired the address, and the answer finds it DEPRECATED, is refused and changes nothing
 too_late : (answers_of (first ∷ second ∷ answering 0x51 ∷ []) ≡ done ∷ done ∷ refused_by (refusal 8) ∷ [])
-    × (outstanding_after (first ∷ []) ≡ some 0x51)
+    × (outstanding_after (first ∷ []) ≡ Some 0x51)
     × (retires (address 2) (after begun (first ∷ [])) second ≡ true)
-    × (outstanding_after (first ∷ second ∷ []) ≡ none)
-    × (finds (address 2) (next (first ∷ second ∷ []) (answering 0x51)) ≡ some Deprecated)
-    × (leaves (address 2) (next (first ∷ second ∷ []) (answering 0x51)) ≡ some Deprecated)
+    × (outstanding_after (first ∷ second ∷ []) ≡ None)
+    × (finds (address 2) (next (first ∷ second ∷ []) (answering 0x51)) ≡ Some Deprecated)
+    × (leaves (address 2) (next (first ∷ second ∷ []) (answering 0x51)) ≡ Some Deprecated)
     × (after begun (first ∷ second ∷ []) ≡ retired)
     × (after begun (first ∷ second ∷ answering 0x51 ∷ []) ≡ retired)
 unfolding calls history after outstanding_from
@@ -117,19 +114,19 @@ too_late = (refl, refl, refl, refl, refl, refl, refl, refl)
 
 -- the answer comes in time: the address becomes ACTIVE, and no nonce is outstanding any more
 in_time : (answers_of (first ∷ answering 0x51 ∷ []) ≡ done ∷ done ∷ [])
-    × (finds (address 2) (next (first ∷ []) (answering 0x51)) ≡ some (checked 0x51 0))
-    × (leaves (address 2) (next (first ∷ []) (answering 0x51)) ≡ some Active)
-    × (outstanding_after (first ∷ answering 0x51 ∷ []) ≡ none)
+    × (finds (address 2) (next (first ∷ []) (answering 0x51)) ≡ Some (checked 0x51 0))
+    × (leaves (address 2) (next (first ∷ []) (answering 0x51)) ≡ Some Active)
+    × (outstanding_after (first ∷ answering 0x51 ∷ []) ≡ None)
 unfolding calls history after outstanding_from
 in_time = (refl, refl, refl, refl)
 
 -- the check was replaced: the answer to the first check is refused and changes nothing, and the answer to the new one makes the address ACTIVE
 replaced : (answers_of (first ∷ second ∷ third ∷ answering 0x51 ∷ answering 0x71 ∷ []) ≡ done ∷ done ∷ done ∷ refused_by (refusal 8) ∷ done ∷ [])
-    × (outstanding_after (first ∷ second ∷ third ∷ []) ≡ some 0x71)
+    × (outstanding_after (first ∷ second ∷ third ∷ []) ≡ Some 0x71)
     × (after begun (first ∷ second ∷ third ∷ []) ≡ with 2 2 renewed)
     × (after begun (first ∷ second ∷ third ∷ answering 0x51 ∷ []) ≡ with 2 2 renewed)
     × (after begun (first ∷ second ∷ third ∷ answering 0x51 ∷ answering 0x71 ∷ []) ≡ with 2 2 Active)
-    × (leaves (address 2) (next (first ∷ second ∷ third ∷ answering 0x51 ∷ []) (answering 0x71)) ≡ some Active)
+    × (leaves (address 2) (next (first ∷ second ∷ third ∷ answering 0x51 ∷ []) (answering 0x71)) ≡ Some Active)
 unfolding calls history after outstanding_from
 replaced = (refl, refl, refl, refl, refl, refl)
 
@@ -157,27 +154,27 @@ silence = replicate 320 0xff ∷ []
 lost : (resent_at (first ∷ []) 101 ≡ again)
     × (resent_at (first ∷ tick_at 101 ∷ []) 101 ≡ silence)
     × (resent_at (first ∷ tick_at 101 ∷ []) 105 ≡ again)
-    × (leaves (address 2) (next (first ∷ tick_at 101 ∷ []) (tick_at 105)) ≡ some (issued 0x51 0 100 3))
+    × (leaves (address 2) (next (first ∷ tick_at 101 ∷ []) (tick_at 105)) ≡ Some (issued 0x51 0 100 3))
     × (resent_at (first ∷ tick_at 101 ∷ tick_at 105 ∷ []) 107 ≡ silence)
     × (resent_at (first ∷ tick_at 101 ∷ tick_at 105 ∷ []) 108 ≡ again)
     × (resent_at (first ∷ tick_at 108 ∷ []) 115 ≡ silence)
-    × (leaves (address 2) (next (first ∷ tick_at 101 ∷ []) (answering 0x51)) ≡ some Active)
+    × (leaves (address 2) (next (first ∷ tick_at 101 ∷ []) (answering 0x51)) ≡ Some Active)
     × (resent_at (first ∷ answering 0x51 ∷ []) 101 ≡ silence)
 unfolding calls history after
 lost = (refl, refl, refl, refl, refl, refl, refl, refl, refl)
 
 -- "step 3 keeps" the check, with its issue time and its count: a Move at 101 that lists the address leaves them, and at 108 the check is sent again
-kept : (leaves (address 2) (next (first ∷ tick_at 101 ∷ []) third) ≡ some (issued 0x51 0 100 1)) × (resent_at (first ∷ tick_at 101 ∷ third ∷ []) 108 ≡ again)
+kept : (leaves (address 2) (next (first ∷ tick_at 101 ∷ []) third) ≡ Some (issued 0x51 0 100 1)) × (resent_at (first ∷ tick_at 101 ∷ third ∷ []) 108 ≡ again)
 unfolding calls history after
 kept = (refl, refl)
 
 -- given up at 116, and nothing is sent again then; the answer is too late; a Move that lists the address brings a new check, of the next Update ID and the time of that
 -- tick
-ended : (leaves (address 2) (next (first ∷ tick_at 108 ∷ []) (tick_at 115)) ≡ some (issued 0x51 0 100 4))
-    × (leaves (address 2) (next (first ∷ []) (tick_at 116)) ≡ some Deprecated)
+ended : (leaves (address 2) (next (first ∷ tick_at 108 ∷ []) (tick_at 115)) ≡ Some (issued 0x51 0 100 4))
+    × (leaves (address 2) (next (first ∷ []) (tick_at 116)) ≡ Some Deprecated)
     × (resent_at (first ∷ []) 116 ≡ silence)
     × (answers_of (first ∷ tick_at 116 ∷ answering 0x51 ∷ third ∷ []) ≡ done ∷ done ∷ refused_by (refusal 8) ∷ done ∷ [])
-    × (leaves (address 2) (next (first ∷ tick_at 116 ∷ []) third) ≡ some (issued 0x71 1 116 0))
+    × (leaves (address 2) (next (first ∷ tick_at 116 ∷ []) third) ≡ Some (issued 0x71 1 116 0))
 unfolding calls history after
 ended = (refl, refl, refl, refl, refl)
 

@@ -1,5 +1,6 @@
 -- The times of a check that is not answered (order 4). A check is known here by its issue time, its count of resends, and the time of a tick.
-use Rattle.std.specs.Prelude.{ℕ, ◌+◌, ◌-◌, Bool, cond, ◌||◌, List, [], ◌∷◌, leb, ltb, length}
+use Rattle.std.specs.Prelude.{ℕ, ◌-◌, Bool, ◌||◌, List, [], ◌∷◌, leb, ltb, length}
+use Rattle.std.specs.List.{count_by}
 
 -- the moments, "at 1, 2, 4 and 8 seconds after issue"
 abbrev pub moments : List ℕ
@@ -7,8 +8,7 @@ moments = 1 ∷ 2 ∷ 4 ∷ 8 ∷ []
 
 -- how many of them are at most so many seconds
 abbrev pub reached_of : (seconds : ℕ) → (moments : List ℕ) → ℕ
-reached_of seconds [] = 0
-reached_of seconds (m ∷ ms) = cond (leb m seconds) 1 0 + reached_of seconds ms
+reached_of seconds moments = count_by (λ (moment : ℕ). leb moment seconds) moments
 
 -- "the number of moments reached"
 abbrev pub reached : (issued time : ℕ) → ℕ

@@ -1,49 +1,26 @@
-// The times of a check that is not answered: when it is sent again, and when it is given up. Numbers alone. Depends on boolean.
+// The times of a check that is not answered: when it is sent again, and when it is given up. Numbers alone. Depends on nothing.
 #![tactic(auto)]
 
-ghost use Rattle.std.specs.Prelude.{◌≡◌, cond, ◌-◌, leb};
+ghost use Rattle.std.specs.Prelude.{◌≡◌};
 ghost use Rattle.check_times.specs.Times.{reached, is_due, is_given_up, is_bad_check};
 
-// The moments at which a check is sent again, in seconds after issue, and how many they are.
-const FIRST_MOMENT: u64 = 1;
-
-const SECOND_MOMENT: u64 = 2;
-
-const THIRD_MOMENT: u64 = 4;
-
-const LAST_MOMENT: u64 = 8;
-
-const MOMENT_COUNT: u8 = 4;
+// The moments at which a check is sent again, in seconds after issue.
+const MOMENTS: [u64; 4] = [1, 2, 4, 8];
 
 // A check that is so many seconds old is given up.
 const CHECK_LIFE: u64 = 16;
 
-// The seconds from issue to the time; 0 where the time is earlier.
-fn seconds_since(issued: u64, time: u64) -> u64
-    ensures { result ≡ time - issued }
-{
-    if time < issued {
-        return 0;
-    }
-    time - issued
-}
-
-// 1 where the moment is at most so many seconds, 0 where it is not.
-fn is_reached(moment: u64, seconds: u64) -> u8
-    ensures { result ≡ cond (leb moment seconds) 1 0 }
-{
-    if moment <= seconds { 1 } else { 0 }
-}
-
-// The moments reached at the time.
+// The moments reached at the time: those that are at most so many seconds after issue.
+// It is no `filter` with `count` over the moments: that took 55 instructions for 14, since its loop is not unrolled, and a tick asks it of every check.
 pub fn reached(issued: u64, time: u64) -> u8
     ensures { result ≡ reached issued time }
 {
-    let seconds = seconds_since(issued, time);
-    is_reached(FIRST_MOMENT, seconds)
-        + is_reached(SECOND_MOMENT, seconds)
-        + is_reached(THIRD_MOMENT, seconds)
-        + is_reached(LAST_MOMENT, seconds)
+    let seconds = time.saturating_sub(issued);
+    let [first, second, third, last] = MOMENTS;
+    u8::from(first <= seconds)
+        + u8::from(second <= seconds)
+        + u8::from(third <= seconds)
+        + u8::from(last <= seconds)
 }
 
 // The check is to be sent again: its count is below the moments reached.
@@ -57,12 +34,12 @@ pub fn is_due(issued: u64, resends: u8, time: u64) -> bool
 pub fn is_given_up(issued: u64, time: u64) -> bool
     ensures { result ≡ is_given_up issued time }
 {
-    CHECK_LIFE <= seconds_since(issued, time)
+    CHECK_LIFE <= time.saturating_sub(issued)
 }
 
 // Refusal 0 of a check: it is issued after the stored time, or was sent again more often than there are moments.
 pub fn is_bad_check(issued: u64, resends: u8, time: u64) -> bool
     ensures { result ≡ is_bad_check issued resends time }
 {
-    boolean::either(time < issued, MOMENT_COUNT < resends)
+    time < issued || MOMENTS.len() < usize::from(resends)
 }

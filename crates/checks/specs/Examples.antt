@@ -1,6 +1,5 @@
 -- Worked examples, computed from the definitions: new checks up to the last own Update ID, and none past it.
 use Rattle.std.specs.Prelude.{ℕ, ◌≡◌, refl, false, List, [], ◌∷◌, map}
-use Rattle.octets.specs.Records as records
 use Rattle.locator.specs.declared.ListedLocator.{ListedLocator}
 use Rattle.slot.specs.declared.Status.{Status}
 use Rattle.slot.specs.declared.Status.TheVariants.{Unverified, Deprecated}
@@ -31,5 +30,5 @@ given_up_to_the_last : map (λ (next : ℕ). given (entry 1 ∷ entry 2 ∷ []) 
     ∷ (holding 1 (waiting 11 4294967294) ∷ holding 2 (waiting 12 4294967295) ∷ [])
     ∷ found
     ∷ []
-unfolding check_count checked records.some
+unfolding check_count checked
 given_up_to_the_last = refl

@@ -1,5 +1,5 @@
 -- Tick: from the association, the time and the length of the lent buffer to the whole answer. A refusal gives back the association and the buffer as they were.
-use Rattle.std.specs.Prelude.{ℕ, cond, List, [], length}
+use Rattle.std.specs.Prelude.{ℕ, cond, List, [], length, Err, Ok, Result, ⊤}
 use Rattle.refusal.specs.Table.{refusal}
 use Rattle.slots.specs.Rules.{expire_all, resend_all}
 use Rattle.credit.specs.Clock.{refusal12, credit_at, last_ageing}
@@ -7,9 +7,8 @@ use Rattle.reply_form.specs.Replies.{overwritten}
 use Rattle.resend.specs.Resends.{refusal23, resent_bytes}
 use Rattle.association.specs.Form.{refusal0, with_clock}
 use Rattle.association.specs.declared.Association.{Association}
-use Rattle.association.specs.declared.Outcome.{Outcome}
-use Rattle.association.specs.declared.Outcome.TheVariants.{Accepted, Refused}
 use Rattle.clock.specs.declared.TickAnswer.{TickAnswer}
+use Rattle.refusal.specs.declared.Refusal.{Refusal}
 
 -- "Tick stores the time. Locators with time at or past expiry turn DEPRECATED."; order 3 of the credit: "Each whole 5 seconds is one ageing"; order 4 of the
 -- checks of those that are left: "the count becomes that number"
@@ -25,17 +24,17 @@ resends a time = resent_bytes a.inbound time (expire_all time a.slots)
 -- ---- the answers
 -- an answer with the bytes themselves
 pub record Ticked : Type 0 where
-  pub outcome : Outcome
+  pub outcome : Result ⊤ Refusal
   pub bytes : List ℕ
   pub left : Association
 
 -- "A refusal returns its number and zero reply bytes; association and buffer are as lent."
 abbrev pub declined : (number : ℕ) → Association → Ticked
-declined number a = record { outcome = Refused (refusal number); bytes = []; left = a }
+declined number a = record { outcome = Err (refusal number); bytes = []; left = a }
 
 -- the tick is accepted
 abbrev pub passed : Association → (time : ℕ) → Ticked
-passed a time = record { outcome = Accepted; bytes = resends a time; left = ticked a time }
+passed a time = record { outcome = (Ok tt); bytes = resends a time; left = ticked a time }
 
 -- refusal 0 comes first; then 23, "tried before 12"; then 12
 unfoldable pub handled : Association → (time room : ℕ) → Ticked

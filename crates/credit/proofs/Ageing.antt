@@ -86,9 +86,14 @@ pub silence : (limit last time c : ℕ) → c ≤ limit → lasting limit * agei
 silence limit last time c h l = used_up limit (ageings last time) c h (omega arith)
 
 -- ---- the rounds of a loop that ages
+-- before the first
+pub none_made : (credit : ℕ) → credit ≡ aged_by 0 credit
+unfolding aged_by
+none_made credit = refl
+
 -- a credit of 0 is what all ageings leave
-pub ends_at_none : (made count credit aged : ℕ) → aged ≡ aged_by made credit → aged < 1 → made ≤ count → 0 ≡ aged_by count credit
-ends_at_none made count credit aged e h l = sym (stays_none made count credit (omega arith) l)
+pub ends_at_none : (made count credit aged : ℕ) → aged ≡ aged_by made credit → aged ≡ 0 → made ≤ count → aged ≡ aged_by count credit
+ends_at_none made count credit aged e h l = h ∙ sym (stays_none made count credit (sym e ∙ h) l)
 
 -- one round more
 pub round_more : (made credit aged r : ℕ) → aged ≡ aged_by made credit → r ≡ aged_once aged → r ≡ aged_by (made + 1) credit
@@ -97,10 +102,6 @@ round_more made credit aged r e p = p ∙ (ap aged_once e ∙ sym (aged_next mad
 -- and one less of those that the credit lasts
 pub round_less : (made credit aged : ℕ) → aged ≡ aged_by made credit → 1 ≤ aged → lasting credit - (made + 1) < lasting credit - made
 round_less made credit aged e h = let r = left_within credit made credit (omega arith) (omega arith) in omega arith
-
--- all rounds are made
-pub all_made : (made count credit aged : ℕ) → aged ≡ aged_by made credit → made ≤ count → count ≤ made → aged ≡ aged_by count credit
-all_made made count credit aged e h l = let q : made ≡ count = omega arith in e ∙ ap (λ (n : ℕ). aged_by n credit) q
 
 -- ---- the constant period
 -- less than an interval is left towards the next ageing

@@ -1,4 +1,4 @@
-// The numbers of credit and clock: their limits, what an arrival adds, and what ageing takes. Depends on boolean.
+// The numbers of credit and clock: their limits, what an arrival adds, and what ageing takes. Depends on nothing.
 #![tactic(auto)]
 
 ghost use Rattle.std.specs.Prelude.{◌≡◌};
@@ -23,19 +23,14 @@ pub const AGEING_INTERVAL: u64 = 5;
 pub fn is_bad_size(size: u64) -> bool
     ensures { result ≡ refusal13 size }
 {
-    boolean::either(size < LEAST_SIZE, MOST_SIZE < size)
+    size < LEAST_SIZE || MOST_SIZE < size
 }
 
 // The credit after an arrival, which stops at the limit.
 pub fn add_arrival(credit: u64, size: u64) -> u64
     ensures { result ≡ credited credit size }
 {
-    if credit <= CREDIT_LIMIT {
-        if size <= CREDIT_LIMIT - credit {
-            return credit + size;
-        }
-    }
-    CREDIT_LIMIT
+    credit.saturating_add(size).min(CREDIT_LIMIT)
 }
 
 // The credit is higher than the size.
@@ -49,17 +44,14 @@ pub fn is_covered(credit: u64, size: u64) -> bool
 pub fn is_bad_time(stored: u64, time: u64) -> bool
     ensures { result ≡ refusal12 stored time }
 {
-    boolean::either(time < stored, TIME_LIMIT <= time)
+    time < stored || TIME_LIMIT <= time
 }
 
 // How many ageings a tick at the time makes: one for each whole interval since the last ageing.
 fn count_ageings(last: u64, time: u64) -> u64
     ensures { result ≡ ageings last time }
 {
-    if time < last {
-        return 0;
-    }
-    (time - last) / AGEING_INTERVAL
+    time.saturating_sub(last) / AGEING_INTERVAL
 }
 
 // The credit after one ageing. It is taken in eighths, so that no credit overflows.
@@ -70,18 +62,16 @@ fn age_once(credit: u64) -> u64
 }
 
 // The credit after so many ageings, one after the other. A credit of 0 stays 0, so it ends there: whatever the count, no more rounds are made than the credit lasts,
-// which is some hundred from the limit.
+// which is some hundred from the limit. The loop is no `for` over the count, since its measure is to say that: `for` would bound the rounds by the count alone.
+#[tactic(auto, using(crate::proofs::Ageing::none_made, crate::proofs::Ageing::ends_at_none, crate::proofs::Ageing::round_more, crate::proofs::Ageing::round_less))]
 fn age_by(count: u64, credit: u64) -> u64
     ensures { result ≡ aged_by count credit }
 {
     let mut made = 0;
     let mut aged = credit;
-    while made < count {
-        if aged < 1 {
-            return 0;
-        }
+    while made < count && aged != 0 {
         aged = age_once(aged);
-        made = made + 1;
+        made += 1;
     }
     aged
 }
@@ -97,8 +87,5 @@ pub fn age_credit(last: u64, time: u64, credit: u64) -> u64
 pub fn age_clock(last: u64, time: u64) -> u64
     ensures { result ≡ last_ageing last time }
 {
-    if time < last {
-        return last;
-    }
-    time - (time - last) % AGEING_INTERVAL
+    last + count_ageings(last, time) * AGEING_INTERVAL
 }

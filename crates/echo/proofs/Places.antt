@@ -7,27 +7,16 @@ use native.Mathlib.Omega.{arith}
 use lib.Dec.{eqb}
 use lib.ListN.{length}
 use borrow.Author.Tests.{eq-eqb, ne_eqb, eqb-true, not-true}
+use Rattle.std.specs.Prelude.{Ok, Err}
 use Rattle.boolean.proofs.Laws.{and_true_left, and_true_right}
 use Rattle.parameter.specs.Types.{echo_response_signed, nonce_size}
-use Rattle.frame.specs.Survey.{survey_of, refusal3}
-use Rattle.frame.specs.declared.Occurrence.{Occurrence}
+use Rattle.refusal.specs.declared.Refusal.{Refusal}
+use Rattle.frame.specs.Survey.{survey_of, refusal3, walk_of}
+use Rattle.frame.specs.declared.Survey.{Survey}
+use Rattle.frame.proofs.Answers.{walk_rejected, walk_complete}
 use Rattle.frame.proofs.Within.{lies_within}
 use Rattle.echo.specs.declared.Place.{Place}
-use Rattle.echo.specs.Parts.{same_bytes, part_at, echoes, at_end, place_of}
-
--- ---- whether the first echo response is the nonce
-module _ (s : List ℕ) (echo : Occurrence) (nonce : List ℕ) where
-  pub no_echo : echo.times ≡ 0 → false ≡ echoes s echo nonce
-  unfolding echoes
-  no_echo h = rw (eq-eqb _ _ h)
-
-  pub other_length : (echo.len ≡ nonce_size → ⊥) → false ≡ echoes s echo nonce
-  unfolding echoes
-  other_length h = simp (ne_eqb _ _ h, and-false)
-
-  pub by_bytes : (echo.times ≡ 0 → ⊥) → echo.len ≡ nonce_size → same_bytes (part_at s echo.body nonce_size) nonce ≡ echoes s echo nonce
-  unfolding echoes
-  by_bytes t l = rw (ne_eqb _ _ t, eq-eqb _ _ l)
+use Rattle.echo.specs.Parts.{echoes, at_end, place_of}
 
 -- ---- the place
 abbrev Lies : List ℕ → Place → Type 0
@@ -38,18 +27,22 @@ module _ (s nonce : List ℕ) where
   unfolding place_of
   place_short h = rw (ne_eqb _ _ h)
 
-  pub place_refused : refusal3 s ≡ true → at_end s ≡ place_of s nonce
+  pub place_refused : {r : Refusal} → Err r ≡ walk_of s → at_end s ≡ place_of s nonce
   unfolding place_of
-  place_refused h = simp (h, and-false)
+  place_refused e = simp ((walk_rejected s e refl).0, and-false)
 
-  pub place_missed : echoes s (survey_of s).echo nonce ≡ false → at_end s ≡ place_of s nonce
-  unfolding place_of
-  place_missed h = simp (h, and-false)
+  -- what the walk has seen of the first echo response
+  module _ {z : Survey} (e : Ok z ≡ walk_of s) where
+    pub echo_within : z.echo.body + z.echo.len ≤ length s
+    echo_within = let w = walk_complete s e refl in rw w.1 (lies_within s echo_response_signed w.0)
 
-  pub place_found : length nonce ≡ nonce_size → refusal3 s ≡ false → echoes s (survey_of s).echo nonce ≡ true
-      → record { start = (survey_of s).echo.body; len = nonce_size } ≡ place_of s nonce
-  unfolding place_of
-  place_found l h e = rw (eq-eqb _ _ l, h, e)
+    pub place_missed : echoes s z.echo nonce ≡ false → at_end s ≡ place_of s nonce
+    unfolding place_of
+    place_missed h = let w = walk_complete s e refl in let f = rw w.1 at h in simp (f, and-false)
+
+    pub place_found : length nonce ≡ nonce_size → echoes s z.echo nonce ≡ true → record { start = z.echo.body; len = nonce_size } ≡ place_of s nonce
+    unfolding place_of
+    place_found l h = let w = walk_complete s e refl in let f = rw w.1 at h in rw (w.1, eq-eqb _ _ l, w.0, f)
 
   -- the part lies within the packet
   pub place_within : (place_of s nonce).start + (place_of s nonce).len ≤ length s

@@ -2,7 +2,7 @@
 use Rattle.std.specs.Prelude.{ℕ, ◌+◌, ◌≡◌, refl, true, false, List, [], ◌∷◌, ◌++◌, map, replicate}
 use Rattle.std.specs.Borrow.{Bor}
 use Rattle.octets.specs.ExamplesHex.{hex}
-use Rattle.octets.specs.Records.{records, some}
+use Rattle.octets.specs.Records.{records}
 use Rattle.parameter.specs.Types.{refused_type, wrong_length}
 use Rattle.frame.specs.Parameters.{falls}
 use Rattle.frame.specs.Survey.{occurs}
@@ -35,14 +35,13 @@ end size = record { start = size; len = 0 }
 same : (map (same_bytes (1 ∷ 2 ∷ [])) ((1 ∷ 2 ∷ []) ∷ (1 ∷ 1 ∷ []) ∷ (1 ∷ 3 ∷ []) ∷ (0 ∷ 2 ∷ []) ∷ (2 ∷ 2 ∷ []) ∷ (1 ∷ []) ∷ (1 ∷ 2 ∷ 3 ∷ []) ∷ [] ∷ [])
     ≡ true ∷ replicate 7 false)
     × (map (same_bytes []) ([] ∷ (0 ∷ []) ∷ []) ≡ true ∷ false ∷ [])
-unfolding same_bytes
 same = (refl, refl)
 
 -- the only echo response and the first of two are found at their place; the second is not, though it is equal
 places : (place_of (packet 6 (hex "03c10008 01020304 05060708 00000000")) first ≡ found)
     × (place_of (packet 8 both) first ≡ found)
     × (place_of (packet 8 both) second ≡ end 72)
-unfolding records some refused_type wrong_length falls occurs same_bytes echoes place_of
+unfolding records refused_type wrong_length falls occurs echoes place_of
 places = (refl, refl, refl)
 
 -- "if the nonce is not eight bytes long": 0, 7, 9 and 16 bytes, which stand where the echo response does, also where it has that length
@@ -51,18 +50,18 @@ lengths : (map (place_of (packet 8 both)) ([] ∷ hex "01020304 050607" ∷ hex 
     × (place_of (packet 6 (hex "03c10007 01020304 05060700 00000000")) (hex "01020304 050607") ≡ end 56)
     × (place_of (packet 6 (hex "03c10009 01020304 05060708 09000000")) (hex "01020304 05060708 09") ≡ end 56)
     × (place_of (packet 7 (hex "03c10010 01020304 05060708 09090909 09090909 00000000")) (first ++ second) ≡ end 64)
-unfolding records some refused_type wrong_length falls occurs same_bytes echoes place_of
+unfolding records refused_type wrong_length falls occurs echoes place_of
 lengths = (refl, refl, refl, refl)
 
 -- "the packet earns refusal 3": by its header, and by a type that falls after the echo response
 refused : (place_of (packet 9 both) first ≡ end 72)
     × (place_of (packet 7 (hex "03c10008 01020304 05060708 00000000 01c10004 00000007")) first ≡ end 64)
-unfolding records some refused_type wrong_length falls occurs same_bytes echoes place_of
+unfolding records refused_type wrong_length falls occurs echoes place_of
 refused = (refl, refl)
 
 -- "it has no echo response": no parameter at all, and an echo request in its place
 without : (place_of (packet 4 []) first ≡ end 40) × (place_of (packet 6 (hex "03810008 01020304 05060708 00000000")) first ≡ end 56)
-unfolding records some refused_type wrong_length falls occurs same_bytes echoes place_of
+unfolding records refused_type wrong_length falls occurs echoes place_of
 without = (refl, refl)
 
 -- "or the first one is not those eight bytes": it is longer, though it begins with the nonce; it is shorter, though the padding ends as the nonce
@@ -71,7 +70,7 @@ unequal : (map (λ (s : List ℕ). place_of (packet 6 s) first)
     (hex "03c10009 01020304 05060708 00000000" ∷ hex "03c10007 01020304 05060708 00000000" ∷ hex "03c10008 01020304 05060709 00000000" ∷ [])
     ≡ replicate 3 (end 56))
     × (place_of (packet 7 (hex "03c10010 01020304 05060708 01020304 05060708 00000000")) first ≡ end 64)
-unfolding records some refused_type wrong_length falls occurs same_bytes echoes place_of
+unfolding records refused_type wrong_length falls occurs echoes place_of
 unequal = (refl, refl)
 
 -- a reference to where p points, with these bytes there

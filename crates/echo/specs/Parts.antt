@@ -1,5 +1,6 @@
 -- For the log: of a packet and a nonce, "the packet's own part that holds the echo, its eight opaque bytes".
-use Rattle.std.specs.Prelude.{ℕ, ◌+◌, ◌≡◌, Bool, true, false, not, cond, ◌&&◌, List, [], ◌∷◌, eqb, length, take, drop}
+use Rattle.std.specs.Prelude.{ℕ, ◌+◌, ◌≡◌, Bool, not, cond, ◌&&◌, List, eqb, length, take, drop}
+use Rattle.std.specs.Cmp.Lexicographic.{pointwise}
 use Rattle.std.specs.Borrow.{Bor}
 use Rattle.parameter.specs.Types.{nonce_size}
 use Rattle.frame.specs.Survey.{survey_of, refusal3}
@@ -7,11 +8,8 @@ use Rattle.frame.specs.declared.Occurrence.{Occurrence}
 use Rattle.echo.specs.declared.Place.{Place}
 
 -- two lists hold the same bytes
-unfoldable pub same_bytes : List ℕ → List ℕ → Bool
-same_bytes [] [] = true
-same_bytes [] (y ∷ ys) = false
-same_bytes (x ∷ xs) [] = false
-same_bytes (x ∷ xs) (y ∷ ys) = eqb x y && same_bytes xs ys
+abbrev pub same_bytes : List ℕ → List ℕ → Bool
+same_bytes = pointwise eqb
 
 -- the bytes of s at a place
 abbrev pub part_at : List ℕ → (start len : ℕ) → List ℕ

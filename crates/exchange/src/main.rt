@@ -7,13 +7,12 @@
 #![tactic(auto)]
 
 use address::Address;
-use association::{Answer, Association, Outcome};
+use association::{Answer, Association};
 use judge::REPLY_ROOM;
 use refusal::Refusal;
 use reply_form::NONCE_COUNT;
-use std::io;
-use std::num::wrapping_add_u64;
-use update::{MessageAnswer, MessageOutcome};
+use std::{array, io};
+use update::{MessageAnswer, Received};
 use writer::{put_u32, put_u64};
 
 const OUTBOUND_SPI: u32 = 0x2001;
@@ -28,6 +27,7 @@ const PREFIX: u64 = 0x2001_0db8_0000_0000;
 // The bytes of a Move with one locator.
 const MOVE_SIZE: usize = 96;
 
+// This file builds its packets by itself, as `host` does, which README shows whole.
 // Writes ESP_INFO with KEYMAT Index 7, and the outbound SPI as the old one and as the new one. Here and below, a parameter's first four bytes are
 // its type and its length.
 fn put_esp_info(packet: &mut [u8]) {
@@ -63,24 +63,12 @@ fn make_move(packet: &mut [u8], id: u32, low: u64) {
 
 // Eight nonces: this one and the seven numbers after it.
 fn nonces_from(first: u64) -> [u64; NONCE_COUNT] {
-    [
-        first,
-        wrapping_add_u64(first, 1),
-        wrapping_add_u64(first, 2),
-        wrapping_add_u64(first, 3),
-        wrapping_add_u64(first, 4),
-        wrapping_add_u64(first, 5),
-        wrapping_add_u64(first, 6),
-        wrapping_add_u64(first, 7),
-    ]
+    array::from_fn(|k| first.wrapping_add(k as u64))
 }
 
 // Prints so many bytes from a buffer's start on, two hex digits each; nothing where the buffer holds fewer.
 fn print_bytes(rt: &impl Print, buffer: &[u8], count: usize) -> io::Result<()> {
-    if buffer.len() < count {
-        return Ok(());
-    }
-    for byte in &buffer[..count] {
+    for byte in buffer.get(..count).unwrap_or_default() {
         print!(rt; "{byte:02x}")?;
     }
     Ok(())
@@ -92,7 +80,7 @@ fn print_refusal(rt: &impl Print, why: Refusal) -> io::Result<()> {
 }
 
 // Prints the end of an answered message's line: what the answer tells, and the reply's bytes where there are any.
-fn print_reply(rt: &impl Print, answer: MessageAnswer, buffer: &[u8]) -> io::Result<()> {
+fn print_reply(rt: &impl Print, answer: &MessageAnswer, buffer: &[u8]) -> io::Result<()> {
     let written = answer.written;
     print!(rt;
         " reply {written} checks {} keymat {}",
@@ -105,26 +93,26 @@ fn print_reply(rt: &impl Print, answer: MessageAnswer, buffer: &[u8]) -> io::Res
     println!(rt; "")
 }
 
-fn print_message(rt: &impl Print, answer: MessageAnswer, buffer: &[u8]) -> io::Result<()> {
+fn print_message(rt: &impl Print, answer: &MessageAnswer, buffer: &[u8]) -> io::Result<()> {
     print!(rt; "message")?;
     match answer.outcome {
-        MessageOutcome::Moved | MessageOutcome::Replied | MessageOutcome::Responded => {
+        Ok(Received::Moved | Received::Replied | Received::Responded) => {
             print!(rt; " accepted")?;
             print_reply(rt, answer, buffer)
         }
-        MessageOutcome::Repeated => {
+        Ok(Received::Repeated) => {
             print!(rt; " repeated")?;
             print_reply(rt, answer, buffer)
         }
-        MessageOutcome::Declined(why) => print_refusal(rt, why),
+        Err(why) => print_refusal(rt, why),
     }
 }
 
-fn print_start(rt: &impl Print, answer: Answer) -> io::Result<()> {
+fn print_start(rt: &impl Print, answer: &Answer) -> io::Result<()> {
     print!(rt; "start")?;
     match answer.outcome {
-        Outcome::Accepted => println!(rt; " accepted"),
-        Outcome::Refused(why) => print_refusal(rt, why),
+        Ok(()) => println!(rt; " accepted"),
+        Err(why) => print_refusal(rt, why),
     }
 }
 
@@ -135,7 +123,7 @@ fn start(rt: &impl Print) -> io::Result<Association> {
         low: 1,
     };
     let answer = association::start(100, OUTBOUND_SPI, INBOUND_SPI, address, LIFETIME);
-    print_start(rt, answer)?;
+    print_start(rt, &answer)?;
     Ok(answer.association)
 }
 
@@ -151,25 +139,25 @@ fn receive_move(
     make_move(&mut packet, id, low);
     let mut buffer = [0u8; REPLY_ROOM];
     let answer = message::receive(a, &packet, true, nonces_from(nonce), &mut buffer);
-    print_message(rt, answer, &buffer)?;
+    print_message(rt, &answer, &buffer)?;
     Ok(answer.association)
 }
 
 // Moves 4, 5 and 6 use up the own Update IDs 0, 1 and 2, so that the check for Move 7 has own ID 3.
 fn run_whole_reply(rt: &impl Print) -> io::Result<()> {
-    let mut a = start(rt)?;
-    a = receive_move(rt, a, 4, 2, 0x1111_1111_1111_1100)?;
-    a = receive_move(rt, a, 5, 3, 0x2222_2222_2222_2200)?;
-    a = receive_move(rt, a, 6, 4, 0x3333_3333_3333_3300)?;
+    let a = start(rt)?;
+    let a = receive_move(rt, a, 4, 2, 0x1111_1111_1111_1100)?;
+    let a = receive_move(rt, a, 5, 3, 0x2222_2222_2222_2200)?;
+    let a = receive_move(rt, a, 6, 4, 0x3333_3333_3333_3300)?;
     receive_move(rt, a, 7, 5, 0x0102_0304_0506_0708)?;
     Ok(())
 }
 
 fn run_update_ids(rt: &impl Print) -> io::Result<()> {
-    let mut a = start(rt)?;
-    a = receive_move(rt, a, 0, 2, 0x1111_1111_1111_1100)?;
-    a = receive_move(rt, a, 0, 2, 0x2222_2222_2222_2200)?;
-    a = receive_move(rt, a, 5, 3, 0x3333_3333_3333_3300)?;
+    let a = start(rt)?;
+    let a = receive_move(rt, a, 0, 2, 0x1111_1111_1111_1100)?;
+    let a = receive_move(rt, a, 0, 2, 0x2222_2222_2222_2200)?;
+    let a = receive_move(rt, a, 5, 3, 0x3333_3333_3333_3300)?;
     receive_move(rt, a, 4, 4, 0x4444_4444_4444_4400)?;
     Ok(())
 }

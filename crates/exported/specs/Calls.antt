@@ -1,26 +1,23 @@
 -- Calls on an association one after another, each named by a byte, as one number.
-use Rattle.std.specs.Prelude.{ℕ, ◌+◌, ◌%◌, ◌^◌, true, cond, List, [], ◌∷◌, ◌==◌}
+use Rattle.std.specs.Prelude.{ℕ, ◌+◌, ◌%◌, ◌^◌, true, cond, List, [], ◌∷◌, ◌==◌, Err, Ok, Result, ⊤}
 use Rattle.refusal.specs.Table.{number_of}
 use Rattle.address.specs.declared.Address.{Address}
-use Rattle.association.specs.declared.Outcome.{Outcome}
-use Rattle.association.specs.declared.Outcome.TheVariants.{Accepted, Refused}
 use Rattle.association.specs.declared.Answer.{Answer}
 use Rattle.association.specs.declared.Association.{Association}
 use Rattle.association.specs.Form.{refusal0}
 use Rattle.association.specs.Start.{start_of}
-use Rattle.payload.specs.declared.SendOutcome.{SendOutcome}
-use Rattle.payload.specs.declared.SendOutcome.TheVariants.{Granted, Denied}
 use Rattle.payload.specs.declared.SendAnswer.{SendAnswer}
 use Rattle.payload.specs.Calls.{arrival_of, send_of}
 use Rattle.clock.specs.declared.TickAnswer.{TickAnswer}
 use Rattle.clock.specs.Ticks as ticks
-use Rattle.update.specs.declared.MessageOutcome.{MessageOutcome}
-use Rattle.update.specs.declared.MessageOutcome.TheVariants.{Moved, Replied, Responded, Repeated, Declined}
 use Rattle.update.specs.declared.MessageAnswer.{MessageAnswer}
 use Rattle.update.specs.Messages.{message_of, buffer_after}
 use Rattle.exported.specs.declared.Made.{Made}
 use Rattle.exported.specs.Folds.{mixed, folded_from}
 use Rattle.exported.specs.Readings.{bit_of}
+use Rattle.refusal.specs.declared.Refusal.{Refusal}
+use Rattle.update.specs.declared.Received.{Received}
+use Rattle.update.specs.declared.Received.TheVariants.{Moved, Repeated, Replied, Responded}
 
 -- ---- what the calls are given
 -- the association that they start with: its time, both SPIs, and its one address, 2001:db8::1, with its lifetime
@@ -87,26 +84,26 @@ abbrev pub repeated_number : ℕ
 repeated_number = 259
 
 -- an arrival
-abbrev pub outcome_number : Outcome → ℕ
-outcome_number Accepted = accepted_number
-outcome_number (Refused why) = number_of why
+abbrev pub outcome_number : Result ⊤ Refusal → ℕ
+outcome_number (Ok tt) = accepted_number
+outcome_number (Err why) = number_of why
 
 -- a tick, with the bytes that it writes
 abbrev pub tick_number : TickAnswer → ℕ
 tick_number answer = mixed (outcome_number answer.outcome) answer.written
 
 -- a send, with the slot that it is granted
-abbrev pub send_number : SendOutcome → ℕ
-send_number (Granted slot) = mixed accepted_number slot
-send_number (Denied why) = number_of why
+abbrev pub send_number : Result ℕ Refusal → ℕ
+send_number (Ok slot) = mixed accepted_number slot
+send_number (Err why) = number_of why
 
 -- what became of a message
-abbrev pub end_number : MessageOutcome → ℕ
-end_number Moved = accepted_number
-end_number Replied = replied_number
-end_number Responded = responded_number
-end_number Repeated = repeated_number
-end_number (Declined why) = number_of why
+abbrev pub end_number : Result Received Refusal → ℕ
+end_number (Ok Moved) = accepted_number
+end_number (Ok Replied) = replied_number
+end_number (Ok Responded) = responded_number
+end_number (Ok Repeated) = repeated_number
+end_number (Err why) = number_of why
 
 -- a message, with what its answer tells
 abbrev pub message_number : MessageAnswer → ℕ

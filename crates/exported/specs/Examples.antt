@@ -1,5 +1,5 @@
 -- Worked examples, computed from the definitions.
-use Rattle.std.specs.Prelude.{◌≡◌, ℕ, true, false, List, [], ◌∷◌, ◌++◌, map, drop, replicate, refl}
+use Rattle.std.specs.Prelude.{◌≡◌, ℕ, true, false, List, [], ◌∷◌, ◌++◌, map, drop, replicate, refl, Err, None, Ok, Some}
 use Prim.Native.String.{String}
 use Rattle.refusal.specs.Table.{refusal}
 use Rattle.octets.specs.Records as records
@@ -16,35 +16,30 @@ use Rattle.locator_set.specs.Sets.{twice, marks}
 use Rattle.packet.specs.declared.EchoResponse.{EchoResponse}
 use Rattle.packet.specs.declared.EchoResponse.TheVariants.{Absent, Nonce, OtherLength}
 use Rattle.packet.specs.declared.Message.{Message}
-use Rattle.packet.specs.declared.Message.TheVariants.{Refused, Move, Reply, PeerCheck}
+use Rattle.packet.specs.declared.Message.TheVariants.{Move, Reply, PeerCheck}
 use Rattle.packet.specs.Kinds.{is_move}
 use Rattle.packet.specs.Readings.{kind_of, reading_of}
 use Rattle.slot.specs.declared.Status.TheVariants.{Active}
 use Rattle.slot.specs.Clashes.{clash}
 use Rattle.slot.specs.Found.{empty_slot, slot_of}
-use Rattle.slots.specs.Rules.{clashing}
-use Rattle.path.specs.declared.Preference.TheVariants.{Prefers}
-use Rattle.path.specs.Choices.{path_of, lowest}
-use Rattle.association.specs.declared.PeerId.TheVariants.{NoneSeen}
+use Rattle.path.specs.Choices.{path_of}
 use Rattle.association.specs.declared.Association.{Association}
-use Rattle.association.specs.declared.Outcome.TheVariants as outcomes
 use Rattle.association.specs.Form.{refusal0}
 use Rattle.association.specs.Start.{start_of}
 use Rattle.credit.specs.Clock.{aged_by}
-use Rattle.payload.specs.declared.SendOutcome.TheVariants.{Granted, Denied}
 use Rattle.payload.specs.Calls.{arrival_of, send_of}
 use Rattle.resend.specs.Resends.{resent_bytes}
 use Rattle.clock.specs.Ticks as ticks
 use Rattle.readdress.specs.Echoes.{verify_all}
-use Rattle.readdress.specs.Steps.{rebind, entry_for, renew_all, retire_all, place_all, marked_slot}
+use Rattle.readdress.specs.Steps.{rebind, renew_all, retire_all}
 use Rattle.readdress.specs.Checks as checks
 use Rattle.readdress.specs.Moves.{settled, placed}
 use Rattle.reply_form.specs.Replies.{checks_bytes, move_bytes}
-use Rattle.update.specs.declared.MessageOutcome.TheVariants.{Moved, Replied, Responded, Repeated, Declined}
 use Rattle.update.specs.Messages.{after_move, handle_move, handled}
 use Rattle.exported.specs.Folds.{mixed, folded_from, folded}
 use Rattle.exported.specs.Readings.{reading_numbers}
 use Rattle.exported.specs.Calls.{first_nonces, second_nonces, outcome_number, send_number, end_number, message_number, made_of, buffer_of, Run, run_of, calls_run, run_number}
+use Rattle.update.specs.declared.Received.TheVariants.{Moved, Repeated, Replied, Responded}
 
 -- ---- numbers as one
 -- 5 * (5 * 1 + 2) + 3; none; after another; the last of 64 bits, and past it
@@ -67,17 +62,17 @@ listed =
 
 -- a Move that lists so many of them
 abbrev move : (count : ℕ) → EchoResponse → Message
-move count echo = Move (record { keymat = 11; old = 12; new = 13; id = 14; count = count; echo = echo })
+move count echo = Move (record { keymat = 11; old = 12; new = 13; id = 14; echo = echo }) (record { listed = listed; count = count })
 
 -- each kind, and each case of an echo response
-kinds : map (λ (m : Message). reading_numbers (record { message = m; listed = listed }))
-    (Refused (refusal 6)
-    ∷ move 0 Absent
-    ∷ move 2 (Nonce 99)
-    ∷ Reply (Nonce 99)
-    ∷ Reply OtherLength
-    ∷ Reply Absent
-    ∷ PeerCheck (record { id = 51; body = 52; len = 53 })
+kinds : map reading_numbers
+    (Err (refusal 6)
+    ∷ Ok (move 0 Absent)
+    ∷ Ok (move 2 (Nonce 99))
+    ∷ Ok (Reply (Nonce 99))
+    ∷ Ok (Reply OtherLength)
+    ∷ Ok (Reply Absent)
+    ∷ Ok (PeerCheck (record { id = 51; body = 52; len = 53 }))
     ∷ [])
     ≡ (4 ∷ 6 ∷ [])
     ∷ (1 ∷ 11 ∷ 12 ∷ 13 ∷ 14 ∷ 0 ∷ 0 ∷ 0 ∷ [])
@@ -99,16 +94,16 @@ left credit = record {
   time = 102;
   aged = 100;
   credit = credit;
-  peer = NoneSeen;
+  peer = None;
   next = 0;
-  preferred = Prefers 0;
+  preferred = Some 0;
   slots = slot_of (record { address = record { high = 0x20010db800000000; low = 1 }; traffic = 0; expiry = 1000000100; status = Active }) ∷ replicate 7 empty_slot;
 }
 
-answers : (map outcome_number (outcomes.Accepted ∷ outcomes.Refused (refusal 13) ∷ []) ≡ 256 ∷ 13 ∷ [])
-    × (map send_number (Granted 0 ∷ Granted 3 ∷ Denied (refusal 15) ∷ []) ≡ 1280 ∷ 1283 ∷ 15 ∷ [])
-    × (map end_number (Moved ∷ Replied ∷ Responded ∷ Repeated ∷ Declined (refusal 22) ∷ []) ≡ 256 ∷ 257 ∷ 258 ∷ 259 ∷ 22 ∷ [])
-    × (message_number (record { outcome = Replied; written = 1; checks = 2; keymat = 3; association = left 0 }) ≡ folded (257 ∷ 1 ∷ 2 ∷ 3 ∷ []))
+answers : (map outcome_number (Ok tt ∷ Err (refusal 13) ∷ []) ≡ 256 ∷ 13 ∷ [])
+    × (map send_number (Ok 0 ∷ Ok 3 ∷ Err (refusal 15) ∷ []) ≡ 1280 ∷ 1283 ∷ 15 ∷ [])
+    × (map end_number ((Ok Moved) ∷ (Ok Replied) ∷ (Ok Responded) ∷ (Ok Repeated) ∷ Err (refusal 22) ∷ []) ≡ 256 ∷ 257 ∷ 258 ∷ 259 ∷ 22 ∷ [])
+    × (message_number (record { outcome = (Ok Replied); written = 1; checks = 2; keymat = 3; association = left 0 }) ≡ folded (257 ∷ 1 ∷ 2 ∷ 3 ∷ []))
     × (run_number (record { association = left 1000; buffer = []; number = 7 }) ≡ folded (7 ∷ 1000 ∷ 102 ∷ []))
 unfolding mixed
 answers = (refl, refl, refl, refl, refl)
@@ -125,7 +120,7 @@ silent = folded (256 ∷ 0 ∷ [])
 -- an arrival, a send to the ACTIVE address, two ticks, the test of refusal 0, and a byte that names no call
 plain : calls_run (0 ∷ 1 ∷ 2 ∷ 2 ∷ 5 ∷ 9 ∷ []) [] [] (replicate 320 7)
     ≡ record { association = left 1000; buffer = replicate 320 7; number = folded (256 ∷ 1280 ∷ silent ∷ silent ∷ 0 ∷ 0 ∷ []) }
-unfolding mixed made_of buffer_of run_of start_of arrival_of send_of resent_bytes ticks.handled refusal0 clashing clash path_of aged_by lowest legal records.some
+unfolding mixed made_of buffer_of run_of start_of arrival_of send_of resent_bytes ticks.handled refusal0 clash path_of aged_by legal
 plain = refl
 
 -- the test of refusal 0 of an association whose credit is over the limit, which other calls refuse
@@ -163,18 +158,18 @@ messages : ((run moving [] (3 ∷ 4 ∷ [])).number ≡ folded (moved ∷ malfor
     × ((run [] moving (3 ∷ 4 ∷ [])).number ≡ folded (malformed ∷ moved ∷ []))
     × (map (λ (calls : List ℕ). (run moving moving calls).number) ((3 ∷ 4 ∷ []) ∷ (4 ∷ 4 ∷ []) ∷ (4 ∷ 3 ∷ []) ∷ [])
     ≡ folded (moved ∷ again ∷ []) ∷ folded (moved ∷ moved ∷ []) ∷ folded (moved ∷ moved ∷ []) ∷ [])
-unfolding mixed made_of buffer_of run_of start_of handled handle_move after_move placed settled verify_all rebind renew_all retire_all entry_for place_all marked_slot lowest checks.check_count checks.checked checks.twice refusal0 clashing clash legal reading_of kind_of is_move falls occurs records.records records.some refused_type wrong_length ill_form twice marks move_bytes checks_bytes parameter_bytes bytes_of
+unfolding mixed made_of buffer_of run_of start_of handled handle_move after_move placed settled verify_all rebind renew_all retire_all checks.check_count checks.checked refusal0 clash legal reading_of kind_of is_move falls occurs records.records refused_type wrong_length ill_form twice marks move_bytes checks_bytes parameter_bytes bytes_of
 messages = (refl, refl, refl)
 
 -- after the Move a send goes to the UNVERIFIED address and takes credit, and a second one finds too little
 sends : let after = run moving [] (0 ∷ 3 ∷ 1 ∷ 1 ∷ []) in (after.number ≡ folded (256 ∷ moved ∷ 1280 ∷ 15 ∷ [])) × (after.association.credit ≡ 500)
-unfolding mixed made_of buffer_of run_of start_of handled handle_move after_move placed settled verify_all rebind renew_all retire_all entry_for place_all marked_slot lowest checks.check_count checks.checked checks.twice refusal0 clashing clash legal reading_of kind_of is_move falls occurs records.records records.some refused_type wrong_length ill_form twice marks move_bytes checks_bytes parameter_bytes bytes_of arrival_of send_of path_of
+unfolding mixed made_of buffer_of run_of start_of handled handle_move after_move placed settled verify_all rebind renew_all retire_all checks.check_count checks.checked refusal0 clash legal reading_of kind_of is_move falls occurs records.records refused_type wrong_length ill_form twice marks move_bytes checks_bytes parameter_bytes bytes_of arrival_of send_of path_of
 sends = (refl, refl)
 
 -- both messages write into the buffer: a check with the second's nonce, and an ACK over a check with the first's
 buffers : ((run [] moving (4 ∷ [])).buffer ≡ check "00000015" ++ replicate 336 0xee)
     × ((run moving moving (3 ∷ 4 ∷ [])).buffer ≡ hex "01c10004 00000001" ++ (drop 8 (check "0000000b") ++ replicate 336 0xee))
-unfolding mixed made_of buffer_of run_of start_of handled handle_move after_move placed settled verify_all rebind renew_all retire_all entry_for place_all marked_slot lowest checks.check_count checks.checked checks.twice refusal0 clashing clash legal reading_of kind_of is_move falls occurs records.records records.some refused_type wrong_length ill_form twice marks move_bytes checks_bytes parameter_bytes bytes_of
+unfolding mixed made_of buffer_of run_of start_of handled handle_move after_move placed settled verify_all rebind renew_all retire_all checks.check_count checks.checked refusal0 clash legal reading_of kind_of is_move falls occurs records.records refused_type wrong_length ill_form twice marks move_bytes checks_bytes parameter_bytes bytes_of
 buffers = (refl, refl)
 
 -- a tick after the Move sends its check again, over the beginning of the reply
@@ -182,5 +177,5 @@ resends : let after = run moving [] (3 ∷ 2 ∷ []) in
     (after.number ≡ folded (moved ∷ folded (256 ∷ 40 ∷ []) ∷ []))
     × (after.buffer
     ≡ hex "0041000c 00000000 00001001 00001001 01810004 00000000 03810008 00000000 0000000b 00000000" ++ (drop 40 (check "0000000b") ++ replicate 336 0xee))
-unfolding mixed made_of buffer_of run_of start_of handled handle_move after_move placed settled verify_all rebind renew_all retire_all entry_for place_all marked_slot lowest checks.check_count checks.checked checks.twice refusal0 clashing clash legal reading_of kind_of is_move falls occurs records.records records.some refused_type wrong_length ill_form twice marks move_bytes checks_bytes parameter_bytes bytes_of resent_bytes ticks.handled aged_by
+unfolding mixed made_of buffer_of run_of start_of handled handle_move after_move placed settled verify_all rebind renew_all retire_all checks.check_count checks.checked refusal0 clash legal reading_of kind_of is_move falls occurs records.records refused_type wrong_length ill_form twice marks move_bytes checks_bytes parameter_bytes bytes_of resent_bytes ticks.handled aged_by
 resends = (refl, refl)

@@ -1,5 +1,6 @@
 -- Numbers as one number.
-use Rattle.std.specs.Prelude.{ℕ, ◌+◌, ◌*◌, ◌%◌, ◌^◌, List, [], ◌∷◌}
+use Rattle.std.specs.Prelude.{ℕ, ◌+◌, ◌*◌, ◌%◌, ◌^◌, List}
+use Rattle.std.specs.List.{fold}
 
 -- a running number after one more: five times it and the new one, in 64 bits
 unfoldable pub mixed : ℕ → ℕ → ℕ
@@ -7,8 +8,7 @@ mixed h x = (5 * h + x) % 2 ^ 64
 
 -- a running number after more numbers, in their order
 abbrev pub folded_from : ℕ → List ℕ → ℕ
-folded_from h [] = h
-folded_from h (x ∷ xs) = folded_from (mixed h x) xs
+folded_from h xs = fold mixed h xs
 
 -- numbers as one
 abbrev pub folded : List ℕ → ℕ

@@ -1,15 +1,16 @@
 -- What is read of a packet, as numbers.
-use Rattle.std.specs.Prelude.{ℕ, ◌+◌, ◌*◌, ◌^◌, Bool, cond, List, [], ◌∷◌, ◌++◌, map, take}
+use Rattle.std.specs.Prelude.{ℕ, ◌+◌, ◌*◌, ◌^◌, Bool, cond, List, [], ◌∷◌, ◌++◌, map, Result, Ok, Err}
 use Rattle.octets.specs.Written.{joined}
+use Rattle.refusal.specs.declared.Refusal.{Refusal}
 use Rattle.refusal.specs.Table.{number_of}
 use Rattle.locator.specs.declared.ListedLocator.{ListedLocator}
+use Rattle.locator_set.specs.Sets.{listed_in}
 use Rattle.packet.specs.declared.EchoResponse.{EchoResponse}
 use Rattle.packet.specs.declared.EchoResponse.TheVariants.{Absent, Nonce, OtherLength}
 use Rattle.packet.specs.declared.MoveFields.{MoveFields}
 use Rattle.packet.specs.declared.CheckFields.{CheckFields}
 use Rattle.packet.specs.declared.Message.{Message}
-use Rattle.packet.specs.declared.Message.TheVariants.{Refused, Move, Reply, PeerCheck}
-use Rattle.packet.specs.declared.Reading.{Reading}
+use Rattle.packet.specs.declared.Message.TheVariants.{Move, Reply, PeerCheck}
 
 -- the numbers that the four kinds begin with
 abbrev pub move_kind : ℕ
@@ -57,21 +58,21 @@ locator_numbers l =
 abbrev pub listed_numbers : List ListedLocator → List ℕ
 listed_numbers listed = joined (map locator_numbers listed)
 
--- a Move, without the locators that it lists
-abbrev pub move_numbers : MoveFields → List ℕ
-move_numbers m = move_kind ∷ m.keymat ∷ m.old ∷ m.new ∷ m.id ∷ m.count ∷ echo_numbers m.echo
+-- a Move that lists so many locators, without them
+abbrev pub move_numbers : MoveFields → (count : ℕ) → List ℕ
+move_numbers m count = move_kind ∷ m.keymat ∷ m.old ∷ m.new ∷ m.id ∷ count ∷ echo_numbers m.echo
 
 -- a Check
 abbrev pub check_numbers : CheckFields → List ℕ
 check_numbers c = check_kind ∷ c.id ∷ c.body ∷ c.len ∷ []
 
--- a message with its array of locators, of which a Move lists the first `count`
-abbrev pub message_numbers : Message → List ListedLocator → List ℕ
-message_numbers (Refused why) listed = refused_kind ∷ number_of why ∷ []
-message_numbers (Move m) listed = move_numbers m ++ listed_numbers (take m.count listed)
-message_numbers (Reply echo) listed = reply_kind ∷ echo_numbers echo
-message_numbers (PeerCheck c) listed = check_numbers c
+-- a message, a Move with the locators that it lists
+abbrev pub message_numbers : Message → List ℕ
+message_numbers (Move m set) = move_numbers m set.count ++ listed_numbers (listed_in set)
+message_numbers (Reply echo) = reply_kind ∷ echo_numbers echo
+message_numbers (PeerCheck c) = check_numbers c
 
 -- all that is read of a packet
-unfoldable pub reading_numbers : Reading → List ℕ
-reading_numbers r = message_numbers r.message r.listed
+unfoldable pub reading_numbers : Result Message Refusal → List ℕ
+reading_numbers (Ok message) = message_numbers message
+reading_numbers (Err why) = refused_kind ∷ number_of why ∷ []

@@ -1,23 +1,21 @@
 -- The walk over the parameters, turn by turn. Assumes nothing.
 use mathlib.Core.Path.{◌≡◌, refl, ap, sym, ◌∙◌}
-use mathlib.Core.Bool.{Bool, true, false, cond, ◌||◌}
+use mathlib.Core.Bool.{Bool, true, false, cond, ◌||◌, or-false}
 use mathlib.Core.List.{List, [], ◌∷◌}
 use Prim.Native.Nat.{ℕ, ◌-◌, ◌<◌, ◌≤◌}
 use native.Mathlib.Omega.{arith}
 use lib.ListN.{length}
 use borrow.Author.Tests.{lt-ltb, le-ltb}
 use Rattle.boolean.proofs.Laws.{or_true}
+use Rattle.std.specs.Prelude.{None, Some, Result, Ok, Err}
 use Rattle.refusal.specs.declared.Refusal.{Refusal}
 use Rattle.refusal.specs.Table.{refusal}
-use Rattle.octets.specs.Records.{some, records}
+use Rattle.octets.specs.Records.{records}
+use Rattle.std.specs.List.{list_any}
 use Rattle.octets.proofs.Runs.{records_more, records_none}
 use Rattle.parameter.specs.declared.Parameter.{Parameter}
 use Rattle.parameter.proofs.Steps.{at_end_lem, at_refused, at_found}
 use Rattle.frame.specs.declared.Survey.{Survey}
-use Rattle.frame.specs.declared.Walked.{Walked}
-use Rattle.frame.specs.declared.Walked.TheVariants.{Rejected, Complete}
-use Rattle.parameter.specs.declared.Step.{Step}
-use Rattle.parameter.specs.declared.Step.TheVariants.{Found, End, Refused}
 use Rattle.frame.specs.Header.{header_size, header_holds}
 use Rattle.parameter.specs.Types.{esp_info, locator_set, seq, ack, echo_request_signed, echo_response_signed}
 use Rattle.parameter.specs.Parameters.{parameter_at, step_at, broken}
@@ -30,7 +28,7 @@ use Rattle.frame.specs.Turn.{noted}
 -- what the parameters ps add to what was seen before them
 abbrev pub surveyed : Survey → List Parameter → Survey
 surveyed seen ps = record {
-  unknown = cond (some refused ps) 1 seen.unknown;
+  unknown = list_any refused ps || seen.unknown;
   esp = occurs esp_info seen.esp ps;
   set = occurs locator_set seen.set ps;
   seq = occurs seq seen.seq ps;
@@ -41,26 +39,26 @@ surveyed seen ps = record {
 
 -- nothing seen yet
 abbrev pub unseen : Survey
-unseen = record { unknown = 0; esp = never; set = never; seq = never; ack = never; request = never; echo = never }
+unseen = record { unknown = false; esp = never; set = never; seq = never; ack = never; request = never; echo = never }
 
 -- the answer of the walk over the parameters ps, after one of type `last` and what was seen before them
-unfoldable pub judged : List ℕ → ℕ → Survey → List Parameter → Walked
-judged s last seen ps = cond (ill_formed s last ps) (Rejected (refusal 3)) (Complete (surveyed seen ps))
+unfoldable pub judged : List ℕ → ℕ → Survey → List Parameter → Result Survey Refusal
+judged s last seen ps = cond (ill_formed s last ps) (Err (refusal 3)) (Ok (surveyed seen ps))
 
 -- a type that refusal 4 refuses is remembered
-unknown_on : (n : ℕ) (r x : Bool) → cond x 1 (cond r 1 n) ≡ cond (r || x) 1 n
-unknown_on n true true = refl
-unknown_on n true false = refl
-unknown_on n false x = refl
+unknown_on : (r x n : Bool) → ((r || x) || n) ≡ (x || (r || n))
+unknown_on true true n = refl
+unknown_on true false n = refl
+unknown_on false x n = refl
 
 module _ (s : List ℕ) (last : ℕ) (seen : Survey) (p : Parameter) (ps : List Parameter) where
-  judged_ill : ill_after s last p ≡ true → judged s last seen (p ∷ ps) ≡ Rejected (refusal 3)
+  judged_ill : ill_after s last p ≡ true → judged s last seen (p ∷ ps) ≡ Err (refusal 3)
   unfolding judged
   judged_ill h = rw (ill_first, h)
 
   judged_on : ill_after s last p ≡ false → judged s last seen (p ∷ ps) ≡ judged s p.kind (noted seen p.kind p.body p.len) ps
-  unfolding judged some occurs
-  judged_on h = rw (ill_first, h) (simp unknown_on)
+  unfolding judged occurs
+  judged_on h = rw (ill_first, h, unknown_on (refused p) (list_any refused ps) seen.unknown)
 
 -- what holds at the loop's head: the parameters from `at` on, after what was seen, give the walk's answer
 pub record Walking (s : List ℕ) (seen : Survey) (last at : ℕ) : Type 0 where
@@ -68,37 +66,37 @@ pub record Walking (s : List ℕ) (seen : Survey) (last at : ℕ) : Type 0 where
   pub enough : length s - at ≤ steps
   pub same : judged s last seen (records (parameter_at s) (λ (p : Parameter). p.next) (length s) steps at) ≡ walk_of s
 
-pub headless : (s : List ℕ) → header_holds s ≡ false → Rejected (refusal 3) ≡ walk_of s
+pub headless : (s : List ℕ) → header_holds s ≡ false → Err (refusal 3) ≡ walk_of s
 unfolding walk_of
 headless s h = rw h
 
 pub starts : (s : List ℕ) → header_holds s ≡ true → Walking s unseen 0 header_size
 unfolding walk_of judged
-starts s h = record { steps = length s; enough = omega arith; same = rw h }
+starts s h = record { steps = length s; enough = omega arith; same = rw (h, or-false) }
 
--- a turn of the loop, by the step's answer r
-module _ (s : List ℕ) (seen : Survey) (last at : ℕ) (w : Walking s seen last at) {r : Step} (g : r ≡ step_at s at) where
+-- a turn of the loop, by the step's answer
+module _ (s : List ℕ) (seen : Survey) (last at : ℕ) (w : Walking s seen last at) where
   front : at < length s → judged s last seen (parameter_at s at ∷ records (parameter_at s) (λ (p : Parameter). p.next) (length s) (w.steps - 1) (parameter_at s at).next) ≡ walk_of s
   front h = ap (judged s last seen) (sym (records_more (parameter_at s) (λ (p : Parameter). p.next) (length s) w.steps at h w.enough)) ∙ w.same
 
-  ended : judged s last seen [] ≡ Complete seen
-  unfolding judged some falls occurs
+  ended : judged s last seen [] ≡ Ok seen
+  unfolding judged falls occurs
   ended = refl
 
-  pub ends : r ≡ End → Complete seen ≡ walk_of s
+  pub ends : Ok None ≡ step_at s at → Ok seen ≡ walk_of s
   ends e =
       sym ended
-      ∙ (ap (judged s last seen) (sym (records_none (parameter_at s) (λ (p : Parameter). p.next) (length s) w.steps at (at_end_lem s at g e))) ∙ w.same)
+      ∙ (ap (judged s last seen) (sym (records_none (parameter_at s) (λ (p : Parameter). p.next) (length s) w.steps at (at_end_lem s at e))) ∙ w.same)
 
-  pub refuses : {why : Refusal} → r ≡ Refused why → Rejected why ≡ walk_of s
+  pub refuses : {why : Refusal} → Err why ≡ step_at s at → Err why ≡ walk_of s
   refuses e =
-      let q = at_refused s at g e in
+      let q = at_refused s at e in
       let ill : ill_after s last (parameter_at s at) ≡ true = rw q.1.0 in
-      ap Rejected q.1.1 ∙ (sym (judged_ill s last seen (parameter_at s at) _ ill) ∙ front q.0)
+      ap Err q.1.1 ∙ (sym (judged_ill s last seen (parameter_at s at) _ ill) ∙ front q.0)
 
-  pub refuses_fall : {p : Parameter} → r ≡ Found p → p.kind < last → Rejected (refusal 3) ≡ walk_of s
+  pub refuses_fall : {p : Parameter} → Ok (Some p) ≡ step_at s at → p.kind < last → Err (refusal 3) ≡ walk_of s
   refuses_fall e f =
-      let q = at_found s at g e in
+      let q = at_found s at e in
       let ill = or_true (broken s (parameter_at s at)) (falls_below last (parameter_at s at)) (lt-ltb _ _ (rw q.1.1 at f)) in
       sym (judged_ill s last seen (parameter_at s at) _ ill) ∙ front q.0
 
@@ -112,5 +110,5 @@ module _ (s : List ℕ) (seen : Survey) (last at : ℕ) (w : Walking s seen last
         ∙ front h;
   }
 
-  pub goes : {p : Parameter} → r ≡ Found p → last ≤ p.kind → Walking s (noted seen p.kind p.body p.len) p.kind p.next
-  goes e f = let q = at_found s at g e in rw q.1.1 (goes_at q.0 q.1.0 (rw q.1.1 at f))
+  pub goes : {p : Parameter} → Ok (Some p) ≡ step_at s at → last ≤ p.kind → Walking s (noted seen p.kind p.body p.len) p.kind p.next
+  goes e f = let q = at_found s at e in rw q.1.1 (goes_at q.0 q.1.0 (rw q.1.1 at f))

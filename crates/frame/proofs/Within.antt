@@ -8,7 +8,8 @@ use lib.Dec.{ltb, eqb}
 use lib.ListN.{length}
 use borrow.Author.Tests.{ltb-false, eqb-true, eqb-false}
 use Rattle.boolean.proofs.Laws.{or_false_left, or_false_right}
-use Rattle.octets.specs.Records.{records, some}
+use Rattle.octets.specs.Records.{records}
+use Rattle.std.specs.List.{list_any}
 use Rattle.parameter.specs.declared.Parameter.{Parameter}
 use Rattle.frame.specs.declared.Occurrence.{Occurrence}
 use Rattle.frame.specs.Header.{header_size, header_holds}
@@ -40,34 +41,34 @@ module _ (s : List ℕ) (type : ℕ) (P : Occurrence → Type 0)
       go false true e f = h
       go false false e f = h
 
-  occurs_keeps : (steps at : ℕ) (seen : Occurrence) → P seen → some (past_end s) (from s steps at) ≡ false → some wrong (from s steps at) ≡ false
+  occurs_keeps : (steps at : ℕ) (seen : Occurrence) → P seen → list_any (past_end s) (from s steps at) ≡ false → list_any wrong (from s steps at) ≡ false
       → P (occurs type seen (from s steps at))
-  unfolding records some occurs
+  unfolding records occurs
   occurs_keeps zero at seen h e f = h
   occurs_keeps (suc steps) at seen h e f = go (ltb at (length s)) (occurs_keeps steps (parameter_at s at).next) e f
     where
       rest : List Parameter
       rest = from s steps (parameter_at s at).next
 
-      go : (b : Bool) → ((y : Occurrence) → P y → some (past_end s) rest ≡ false → some wrong rest ≡ false → P (occurs type y rest))
-          → some (past_end s) (cond b (parameter_at s at ∷ rest) []) ≡ false → some wrong (cond b (parameter_at s at ∷ rest) []) ≡ false
+      go : (b : Bool) → ((y : Occurrence) → P y → list_any (past_end s) rest ≡ false → list_any wrong rest ≡ false → P (occurs type y rest))
+          → list_any (past_end s) (cond b (parameter_at s at ∷ rest) []) ≡ false → list_any wrong (cond b (parameter_at s at ∷ rest) []) ≡ false
           → P (occurs type seen (cond b (parameter_at s at ∷ rest) []))
       go false ih e f = h
       go true ih e f =
           let p = parameter_at s at in
           ih (counted type seen p.kind p.body p.len)
-          (counted_keeps seen at h (ltb-false (length s) p.next (or_false_left (past_end s p) (some (past_end s) rest) e))
-          (or_false_left (wrong p) (some wrong rest) f))
-          (or_false_right (past_end s p) (some (past_end s) rest) e) (or_false_right (wrong p) (some wrong rest) f)
+          (counted_keeps seen at h (ltb-false (length s) p.next (or_false_left (past_end s p) (list_any (past_end s) rest) e))
+          (or_false_left (wrong p) (list_any wrong rest) f))
+          (or_false_right (past_end s p) (list_any (past_end s) rest) e) (or_false_right (wrong p) (list_any wrong rest) f)
 
   -- from the packet's first parameter on
   pub packet_keeps : P never → refusal3 s ≡ false → P (occurs type never (parameters s))
   packet_keeps h e =
       let ps = parameters s in
       let ill = or_false_right (not (header_holds s)) (ill_formed s 0 ps) e in
-      let later = or_false_right (some (past_end s) ps) (falls 0 ps || some wrong ps) ill in
-      occurs_keeps (length s) header_size never h (or_false_left (some (past_end s) ps) (falls 0 ps || some wrong ps) ill)
-      (or_false_right (falls 0 ps) (some wrong ps) later)
+      let later = or_false_right (list_any (past_end s) ps) (falls 0 ps || list_any wrong ps) ill in
+      occurs_keeps (length s) header_size never h (or_false_left (list_any (past_end s) ps) (falls 0 ps || list_any wrong ps) ill)
+      (or_false_right (falls 0 ps) (list_any wrong ps) later)
 
 -- in a packet that refusal 3 does not refuse, the first parameter of any type lies within the packet
 pub lies_within : (s : List ℕ) (type : ℕ) → refusal3 s ≡ false

@@ -1,12 +1,11 @@
 -- Worked examples, computed from the definitions: headers, types that fall, and what a walk finds in packets in hex.
-use Rattle.std.specs.Prelude.{ℕ, ◌≡◌, refl, true, false, List, [], ◌∷◌, ◌++◌, map, replicate}
+use Rattle.std.specs.Prelude.{ℕ, ◌≡◌, refl, true, false, List, [], ◌∷◌, ◌++◌, map, replicate, Ok, Err}
 use Rattle.refusal.specs.Table.{refusal}
 use Rattle.octets.specs.ExamplesHex.{hex}
-use Rattle.octets.specs.Records.{records, some}
+use Rattle.octets.specs.Records.{records}
 use Rattle.parameter.specs.Types.{refused_type, wrong_length}
 use Rattle.parameter.specs.declared.Parameter.{Parameter}
 use Rattle.frame.specs.declared.Occurrence.{Occurrence}
-use Rattle.frame.specs.declared.Walked.TheVariants.{Rejected, Complete}
 use Rattle.frame.specs.Header.{header_size, header_holds}
 use Rattle.frame.specs.Parameters.{parameters, falls, ill_formed, ill_after}
 use Rattle.frame.specs.Survey.{never, again, occurs, refusal4, walk_of}
@@ -50,7 +49,7 @@ falling = (refl, refl, refl)
 ill : (map (ill_formed (replicate 56 0) 65) ((typed 385 57 ∷ []) ∷ (typed 64 56 ∷ []) ∷ (typed 65 56 ∷ []) ∷ (typed 385 56 ∷ []) ∷ [])
     ≡ true ∷ true ∷ true ∷ false ∷ [])
     × (map (ill_after (replicate 56 0) 65) (typed 385 57 ∷ typed 64 56 ∷ typed 65 56 ∷ typed 385 56 ∷ []) ≡ true ∷ true ∷ true ∷ false ∷ [])
-unfolding falls some wrong_length
+unfolding falls wrong_length
 ill = (refl, refl)
 
 -- ---- what is found
@@ -99,14 +98,14 @@ with h parameters = 0x3b ∷ h ∷ 0x10 ∷ 0x21 ∷ unjudged ++ parameters
 -- what the walk answers: of each type once, of each more than once with an unknown type, of two requests, of no parameter, and of one of type 0, which
 -- falls below none
 walks : (walk_of one_each
-    ≡ Complete (record { unknown = 0; esp = seen 1 44 12; set = seen 1 60 24; seq = seen 1 92 4; ack = seen 1 100 4; request = seen 0 0 0; echo = seen 1 124 8 }))
+    ≡ Ok (record { unknown = false; esp = seen 1 44 12; set = seen 1 60 24; seq = seen 1 92 4; ack = seen 1 100 4; request = seen 0 0 0; echo = seen 1 124 8 }))
     × (walk_of repeated
-    ≡ Complete (record { unknown = 1; esp = seen 2 44 12; set = seen 2 76 0; seq = seen 2 92 4; ack = seen 2 108 4; request = seen 0 0 0; echo = seen 2 140 1 }))
+    ≡ Ok (record { unknown = true; esp = seen 2 44 12; set = seen 2 76 0; seq = seen 2 92 4; ack = seen 2 108 4; request = seen 0 0 0; echo = seen 2 140 1 }))
     × (walk_of (with 9 (hex "01810004 00000009 03810008 01020304 05060708 00000000 03810001 01000000 03c10000 00000000"))
-    ≡ Complete (record { unknown = 0; esp = seen 0 0 0; set = seen 0 0 0; seq = seen 1 44 4; ack = seen 0 0 0; request = seen 2 52 8; echo = seen 1 76 0 }))
+    ≡ Ok (record { unknown = false; esp = seen 0 0 0; set = seen 0 0 0; seq = seen 1 44 4; ack = seen 0 0 0; request = seen 2 52 8; echo = seen 1 76 0 }))
     × (map walk_of (with 4 [] ∷ with 5 (hex "00000000 00000000") ∷ [])
-    ≡ replicate 2 (Complete (record { unknown = 0; esp = seen 0 0 0; set = seen 0 0 0; seq = seen 0 0 0; ack = seen 0 0 0; request = seen 0 0 0; echo = seen 0 0 0 })))
-unfolding walk_of records some refused_type wrong_length falls occurs
+    ≡ replicate 2 (Ok (record { unknown = false; esp = seen 0 0 0; set = seen 0 0 0; seq = seen 0 0 0; ack = seen 0 0 0; request = seen 0 0 0; echo = seen 0 0 0 })))
+unfolding walk_of records refused_type wrong_length falls occurs
 walks = (refl, refl, refl, refl)
 
 -- "header rule broken, parameter past the end, falling type, wrong L for 65, 385, 449": ESP_INFO of 8 and 16 bytes, SEQ of 0 and 8, ACK of 0 and 6
@@ -121,8 +120,8 @@ refused_walks : map walk_of
     ∷ with 5 (hex "01c10000 00000000")
     ∷ with 6 (hex "01c10006 00000003 00000000 00000000")
     ∷ [])
-    ≡ replicate 9 (Rejected (refusal 3))
-unfolding walk_of records some refused_type wrong_length falls occurs
+    ≡ replicate 9 (Err (refusal 3))
+unfolding walk_of records refused_type wrong_length falls occurs
 refused_walks = refl
 
 -- refusal 4 looks at every parameter: the first, the last, and none; 897 is known
@@ -134,5 +133,5 @@ unknown_types : map refusal4
     ∷ with 4 []
     ∷ [])
     ≡ true ∷ true ∷ false ∷ false ∷ false ∷ []
-unfolding records some refused_type
+unfolding records refused_type
 unknown_types = refl

@@ -1,6 +1,7 @@
 -- The parameters of a packet, in order, and refusal 3 by them.
 use Rattle.std.specs.Prelude.{ℕ, Bool, false, ◌||◌, List, [], ◌∷◌, ltb, length}
-use Rattle.octets.specs.Records.{records, some}
+use Rattle.octets.specs.Records.{records}
+use Rattle.std.specs.List.{list_any}
 use Rattle.parameter.specs.Parameters.{parameter_at, past_end, wrong, broken}
 use Rattle.parameter.specs.declared.Parameter.{Parameter}
 use Rattle.frame.specs.Header.{header_size}
@@ -20,7 +21,7 @@ falls last (p ∷ ps) = falls_below last p || falls p.kind ps
 
 -- refusal 3 by the parameters ps, which follow one of type `last`
 abbrev pub ill_formed : List ℕ → (last : ℕ) → List Parameter → Bool
-ill_formed s last ps = some (past_end s) ps || (falls last ps || some wrong ps)
+ill_formed s last ps = list_any (past_end s) ps || (falls last ps || list_any wrong ps)
 
 -- refusal 3 by one parameter, which follows one of type `last`
 abbrev pub ill_after : List ℕ → (last : ℕ) → Parameter → Bool

@@ -1,15 +1,14 @@
 -- What one walk over a packet's parameters finds: refusal 3, or how often each type that the later rules read occurs, and where.
-use Rattle.std.specs.Prelude.{ℕ, Bool, not, cond, ◌||◌, List, [], ◌∷◌, eqb}
+use Rattle.std.specs.Prelude.{ℕ, Bool, not, cond, ◌||◌, List, [], ◌∷◌, eqb, Result, Ok, Err}
+use Rattle.refusal.specs.declared.Refusal.{Refusal}
 use Rattle.refusal.specs.Table.{refusal}
-use Rattle.octets.specs.Records.{some}
+use Rattle.std.specs.List.{list_any}
 use Rattle.frame.specs.Header.{header_holds}
 use Rattle.parameter.specs.Types.{esp_info, locator_set, seq, ack, echo_request_signed, echo_response_signed, refused_type}
 use Rattle.frame.specs.Parameters.{parameters, ill_formed}
 use Rattle.parameter.specs.declared.Parameter.{Parameter}
 use Rattle.frame.specs.declared.Occurrence.{Occurrence}
 use Rattle.frame.specs.declared.Survey.{Survey}
-use Rattle.frame.specs.declared.Walked.{Walked}
-use Rattle.frame.specs.declared.Walked.TheVariants.{Rejected, Complete}
 
 -- a type that does not occur
 abbrev pub never : Occurrence
@@ -41,12 +40,12 @@ refusal3 s = not (header_holds s) || ill_formed s 0 (parameters s)
 
 -- refusal 4: "odd type not known"
 abbrev pub refusal4 : List ℕ → Bool
-refusal4 s = some refused (parameters s)
+refusal4 s = list_any refused (parameters s)
 
 -- the survey of a packet's parameters: what occurs how often, and whether refusal 4 refuses a type
 abbrev pub survey_of : List ℕ → Survey
 survey_of s = record {
-  unknown = cond (refusal4 s) 1 0;
+  unknown = refusal4 s;
   esp = occurs esp_info never (parameters s);
   set = occurs locator_set never (parameters s);
   seq = occurs seq never (parameters s);
@@ -56,5 +55,5 @@ survey_of s = record {
 }
 
 -- what the walk answers
-unfoldable pub walk_of : List ℕ → Walked
-walk_of s = cond (refusal3 s) (Rejected (refusal 3)) (Complete (survey_of s))
+unfoldable pub walk_of : List ℕ → Result Survey Refusal
+walk_of s = cond (refusal3 s) (Err (refusal 3)) (Ok (survey_of s))

@@ -1,5 +1,5 @@
 -- What one turn of the walk's loop adds: cited by private functions alone.
-use Rattle.std.specs.Prelude.{ℕ, cond}
+use Rattle.std.specs.Prelude.{ℕ, ◌||◌}
 use Rattle.parameter.specs.Types.{esp_info, locator_set, seq, ack, echo_request_signed, echo_response_signed, refused_type}
 use Rattle.frame.specs.Survey.{counted}
 use Rattle.frame.specs.declared.Survey.{Survey}
@@ -7,7 +7,7 @@ use Rattle.frame.specs.declared.Survey.{Survey}
 -- what has been seen after one more parameter
 abbrev pub noted : Survey → (kind body len : ℕ) → Survey
 noted seen kind body len = record {
-  unknown = cond (refused_type kind) 1 seen.unknown;
+  unknown = refused_type kind || seen.unknown;
   esp = counted esp_info seen.esp kind body len;
   set = counted locator_set seen.set kind body len;
   seq = counted seq seen.seq kind body len;

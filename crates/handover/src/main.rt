@@ -7,7 +7,7 @@
 //         UPDATE(ACK, ECHO_RESPONSE)                  -->
 //
 // Before the answer the peer host may not send payload to the new address: it has no credit. After it, it may. HMAC and signature stay with the host. Depends
-// on announce, message, payload, association and the crates of their types, and on writer and text to build packets.
+// on announce, message, payload, association and the crates of their types, and on writer to build packets.
 #![tactic(auto)]
 
 use address::Address;
@@ -16,16 +16,12 @@ use association::Association;
 use frame::HEADER_SIZE;
 use judge::REPLY_ROOM;
 use locator_set::SET_LIMIT;
-use payload::SendOutcome;
 use reply_form::NONCE_COUNT;
 use std::io;
-use writer::put_u32;
+use writer::{put_bytes, put_u32};
 
 // The most that a packet takes here: a header and the longest reply.
 const PACKET_ROOM: usize = 424;
-
-// Its bytes in hex.
-const LINE_ROOM: usize = 848;
 
 // The header's first four bytes, but for its length: next header 59, UPDATE, version 2. The rest of the header stays 0.
 const HEADER: u32 = 0x3b00_1021;
@@ -33,38 +29,32 @@ const HEADER: u32 = 0x3b00_1021;
 // The first half of each address: 2001:db8::/64.
 const PREFIX: u64 = 0x2001_0db8_0000_0000;
 
-// A side after it has sent a packet of so many bytes.
-#[derive(Drop)]
-struct Sent {
+// A side: its name, and its association with the other.
+#[derive(Clone, Copy)]
+struct Side {
+    name: &'static str,
     association: Association,
+}
+
+// A packet: the first `size` of the bytes.
+#[derive(Clone, Copy)]
+struct Packet {
+    bytes: [u8; PACKET_ROOM],
     size: usize,
 }
 
-// The two sides after a change.
-#[derive(Drop)]
-struct Sides {
-    mobile: Association,
-    peer: Association,
-}
-
-// Prints so many bytes of a packet, two hex digits each; nothing where it holds fewer, or more than a line does.
-fn say_packet(rt: &impl Print, packet: &[u8], size: usize) -> io::Result<()> {
-    if packet.len() < size {
-        return Ok(());
+// Prints who sends what: the packet, two hex digits for each byte.
+fn say_sent(rt: &impl Print, who: Side, what: &str, packet: &Packet) -> io::Result<()> {
+    print!(rt; "{}{what}\n    ", who.name)?;
+    for byte in sent(packet) {
+        print!(rt; "{byte:02x}")?;
     }
-    let mut line = [0u8; LINE_ROOM];
-    let end = text::put_hex(&mut line, 0, &packet[0..size]);
-    if LINE_ROOM < end {
-        return Ok(());
-    }
-    rt.write_all(&line[0..end])
-}
-
-// Prints who sends what.
-fn say_sent(rt: &impl Print, who: &str, what: &str, packet: &[u8], size: usize) -> io::Result<()> {
-    print!(rt; "{who}{what}\n    ")?;
-    say_packet(rt, packet, size)?;
     println!(rt; "")
+}
+
+// The bytes that are sent.
+fn sent(packet: &Packet) -> &[u8] {
+    packet.bytes.get(..packet.size).unwrap_or_default()
 }
 
 // The address 2001:db8::low.
@@ -73,29 +63,24 @@ fn address_of(low: u64) -> Address {
 }
 
 // Eight nonces. A host draws them at random, for each message anew.
-fn nonces() -> [u64; NONCE_COUNT] {
-    [0x0102_0304_0506_0708, 12, 13, 14, 15, 16, 17, 18]
-}
+const NONCES: [u64; NONCE_COUNT] = [0x0102_0304_0506_0708, 12, 13, 14, 15, 16, 17, 18];
 
-// Puts so many bytes of parameters behind a header, and says how long the packet is; 0 where there are fewer or more than a reply has.
-fn wrap(packet: &mut [u8], parameters: &[u8], count: usize) -> usize {
-    if parameters.len() < count {
-        return 0;
-    }
-    if REPLY_ROOM < count {
-        return 0;
-    }
+// Parameters, of which so many bytes are written, behind a header; no bytes where there are fewer.
+fn wrap(parameters: &[u8; REPLY_ROOM], count: usize) -> Packet {
+    let mut bytes = [0u8; PACKET_ROOM];
+    let Some(written) = parameters.get(..count) else {
+        return Packet { bytes, size: 0 };
+    };
     let size = HEADER_SIZE + count;
-    put_u32(packet, 0, HEADER + (size / 8 - 1) as u32 * 65536);
-    text::put(packet, HEADER_SIZE, &parameters[0..count]);
-    size
+    put_u32(&mut bytes, 0, HEADER + (size / 8 - 1) as u32 * 65536);
+    put_bytes(&mut bytes, HEADER_SIZE, written);
+    Packet { bytes, size }
 }
 
-// One side announces the address 2001:db8::low, with this inbound SPI.
-fn announce_into(a: Association, low: u64, inbound: u32, packet: &mut [u8]) -> Sent {
-    let address = address_of(low);
+// One side announces the address 2001:db8::low, with this inbound SPI: the side after it, and the packet that it sends.
+fn announce(side: Side, low: u64, inbound: u32) -> (Side, Packet) {
     let entry = OwnLocator {
-        address,
+        address: address_of(low),
         lifetime: 600,
         kind: 0,
         traffic: 0,
@@ -103,93 +88,81 @@ fn announce_into(a: Association, low: u64, inbound: u32, packet: &mut [u8]) -> S
     };
     let list = [entry; SET_LIMIT];
     let mut parameters = [0u8; REPLY_ROOM];
-    let answer = announce::announce(a, list, 1, inbound, 0, &mut parameters);
-    let size = wrap(packet, &parameters, answer.written);
+    let answer = announce::announce(side.association, list, 1, inbound, 0, &mut parameters);
     let association = answer.association;
-    Sent { association, size }
+    (
+        Side {
+            association,
+            ..side
+        },
+        wrap(&parameters, answer.written),
+    )
 }
 
-// One side hears a packet of so many bytes, marked authentic, and puts its reply in the packet's place.
-fn answer_into(a: Association, packet: &mut [u8], size: usize) -> Sent {
-    if packet.len() < size {
-        return Sent {
-            association: a,
-            size: 0,
-        };
-    }
+// One side hears a packet, marked authentic: the side after it, and its reply.
+fn hear(side: Side, packet: &Packet) -> (Side, Packet) {
     let mut parameters = [0u8; REPLY_ROOM];
-    let answer = message::receive(a, &packet[0..size], true, nonces(), &mut parameters);
-    let size = wrap(packet, &parameters, answer.written);
+    let answer = message::receive(
+        side.association,
+        sent(packet),
+        true,
+        NONCES,
+        &mut parameters,
+    );
     let association = answer.association;
-    Sent { association, size }
+    (
+        Side {
+            association,
+            ..side
+        },
+        wrap(&parameters, answer.written),
+    )
 }
 
 // Prints whether a payload of 1,000 bytes may go out, and to which slot.
-fn say_payload(rt: &impl Print, who: &str, a: Association) -> io::Result<()> {
-    let answer = payload::send(a, 1000);
-    match answer.outcome {
-        SendOutcome::Granted(slot) => {
-            println!(rt; "{who} sends payload to the address in slot {slot}")
-        }
-        SendOutcome::Denied(why) => {
-            println!(rt; "{who} sends no payload: refused {}", refusal::number(why))
-        }
+fn say_payload(rt: &impl Print, side: Side) -> io::Result<()> {
+    let name = side.name;
+    match payload::send(side.association, 1000).outcome {
+        Ok(slot) => { println!(rt; "{name} sends payload to the address in slot {slot}") }
+        Err(why) => { println!(rt; "{name} sends no payload: refused {}", refusal::number(why)) }
     }
 }
 
-// The mobile host moves to 2001:db8::low, and keeps its inbound SPI.
+// The mobile host moves to 2001:db8::low, and keeps its inbound SPI. The two sides after that.
 fn change(
     rt: &impl Print,
-    mobile: Association,
-    peer: Association,
+    mobile: Side,
+    peer: Side,
     low: u64,
     inbound: u32,
-    who: &str,
-    whom: &str,
-) -> io::Result<Sides> {
-    let mut packet = [0u8; PACKET_ROOM];
-    let announced = announce_into(mobile, low, inbound, &mut packet);
+) -> io::Result<(Side, Side)> {
+    let (mobile, packet) = announce(mobile, low, inbound);
+    say_sent(rt, mobile, ": UPDATE(ESP_INFO, LOCATOR_SET, SEQ)", &packet)?;
+    let (peer, packet) = hear(peer, &packet);
     say_sent(
         rt,
-        who,
-        ": UPDATE(ESP_INFO, LOCATOR_SET, SEQ)",
-        &packet,
-        announced.size,
-    )?;
-    let checking = answer_into(peer, &mut packet, announced.size);
-    say_sent(
-        rt,
-        whom,
+        peer,
         ": UPDATE(ESP_INFO, SEQ, ACK, ECHO_REQUEST)",
         &packet,
-        checking.size,
     )?;
-    let unverified = checking.association;
-    say_payload(rt, whom, unverified)?;
-    let waiting = announced.association;
-    let answered = answer_into(waiting, &mut packet, checking.size);
-    say_sent(
-        rt,
-        who,
-        ": UPDATE(ACK, ECHO_RESPONSE)",
-        &packet,
-        answered.size,
-    )?;
-    let verified = answer_into(unverified, &mut packet, answered.size);
-    let mobile = answered.association;
-    let peer = verified.association;
-    say_payload(rt, whom, peer)?;
-    Ok(Sides { mobile, peer })
+    say_payload(rt, peer)?;
+    let (mobile, packet) = hear(mobile, &packet);
+    say_sent(rt, mobile, ": UPDATE(ACK, ECHO_RESPONSE)", &packet)?;
+    let (peer, _) = hear(peer, &packet);
+    say_payload(rt, peer)?;
+    Ok((mobile, peer))
 }
 
 fn main(rt: HostRuntime) -> io::Result<()> {
-    let first = association::start(100, 0x2001, 0x1001, address_of(2), 600);
-    let one = first.association;
-    let second = association::start(100, 0x1001, 0x2001, address_of(1), 600);
-    let other = second.association;
-    let moved = change(&rt, one, other, 3, 0x1001, "one", "other")?;
-    let one = moved.mobile;
-    let other = moved.peer;
-    change(&rt, other, one, 4, 0x2001, "other", "one")?;
+    let one = Side {
+        name: "one",
+        association: association::start(100, 0x2001, 0x1001, address_of(2), 600).association,
+    };
+    let other = Side {
+        name: "other",
+        association: association::start(100, 0x1001, 0x2001, address_of(1), 600).association,
+    };
+    let (one, other) = change(&rt, one, other, 3, 0x1001)?;
+    change(&rt, other, one, 4, 0x2001)?;
     Ok(())
 }

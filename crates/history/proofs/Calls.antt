@@ -1,37 +1,30 @@
 -- What each call keeps and does, one clause for each call. Assumes nothing.
-use mathlib.Core.Path.{◌≡◌, refl, sym, ap, subst}
+use mathlib.Core.Path.{◌≡◌, refl, ap}
 use mathlib.Core.Bool.{Bool, true, false}
-use mathlib.Core.Option.{Option, none, some}
 use mathlib.Core.List.{List, [], ◌∷◌}
-use Prim.Native.Nat.{ℕ, ◌-◌}
+use Prim.Native.Nat.{ℕ}
 use lib.ListN.{length}
-use Rattle.boolean.proofs.Laws.{apart, cond_all}
+use native.Mathlib.Omega.{arith}
+use Rattle.std.specs.Prelude.{None, Option, Result, Some, ⊤}
 use Rattle.refusal.specs.declared.Refusal.{Refusal}
 use Rattle.refusal.specs.Table.{refusal}
 use Rattle.address.specs.declared.Address.{Address}
 use Rattle.packet.specs.Readings.{reading_of}
 use Rattle.slot.specs.declared.Status.{Status}
-use Rattle.slot.specs.declared.Status.TheVariants.{Unverified, Active, Deprecated}
 use Rattle.slot.specs.Found.{status_in, status_at, is_active, is_unverified, found_as}
 use Rattle.slots.specs.Rules.{expire_all}
 use Rattle.slots.proofs.Kept.{expired_statuses, resent_statuses}
-use Rattle.path.specs.Choices.{path_of}
-use Rattle.path.specs.declared.Path.{Path}
-use Rattle.path.specs.declared.Path.TheVariants.{ToActive, ToUnverified, NoCarrier}
 use Rattle.path.proofs.Picked.{picked_active, picked_unverified}
-use Rattle.credit.specs.Credit.{refusal13, covers, credited}
 use Rattle.credit.specs.Clock.{ageings}
 use Rattle.credit.proofs.Covered.{covered_below}
-use Rattle.association.specs.Form.{refusal0, with_credit, accepted, refused}
+use Rattle.association.specs.Form.{refusal0}
 use Rattle.association.specs.Start.{no_association}
 use Rattle.association.specs.declared.Association.{Association}
 use Rattle.association.specs.declared.Answer.{Answer}
-use Rattle.association.specs.declared.Outcome.{Outcome}
-use Rattle.association.specs.declared.Outcome.TheVariants.{Accepted, Refused}
 use Rattle.association.proofs.Answers.{is_refused}
 use Rattle.association.proofs.Sound.{Keeps}
 use Rattle.association.proofs.Started.{none_refused}
-use Rattle.payload.specs.Calls.{arrival_of, send_of, send_to, granted, denied}
+use Rattle.payload.specs.Calls.{arrival_of, send_of}
 use Rattle.payload.specs.declared.SendAnswer.{SendAnswer}
 use Rattle.payload.proofs.Kept.{arrival_keeps, send_keeps}
 use Rattle.clock.specs.Ticks as ticks
@@ -39,22 +32,22 @@ use Rattle.clock.proofs.Ends.{tick_ends}
 use Rattle.clock.proofs.Ends as clock_ends
 use Rattle.clock.proofs.Kept.{tick_keeps}
 use Rattle.reply_form.specs.Replies.{nonce_count}
-use Rattle.update.specs.declared.MessageOutcome.{MessageOutcome}
-use Rattle.update.specs.declared.MessageOutcome.TheVariants.{Moved, Replied, Responded, Repeated, Declined}
-use Rattle.update.specs.Messages.{handle_message, handled}
+use Rattle.update.specs.Messages.{handle_reading, handled}
 use Rattle.update.proofs.Cases.{message_ends}
-use Rattle.update.proofs.Untouched.{is_declined, message_untouched, declined_buffer}
+use Rattle.update.proofs.Untouched.{is_declined, reading_untouched, declined_buffer}
 use Rattle.update.proofs.Kept.{message_keeps}
 use Rattle.announcement.specs.declared.OwnLocator.{OwnLocator}
 use Rattle.announcement.specs.Announcements as announcements
 use Rattle.announcement.proofs.Ends.{announcement_ends, refused_buffer}
 use Rattle.announcement.proofs.Kept.{announcement_keeps}
-use Rattle.history.specs.Calls.{Call, message, arrival, send, tick, announce, Answered, refused_by, of_outcome, of_send, of_message, done, repeated, granted_to, answers, returned, lent, lent_after, is_accepted, after}
+use Rattle.update.specs.declared.Received.{Received}
+use Rattle.history.specs.Calls.{Call, message, arrival, send, tick, announce, Answered, refused_by, of_outcome, of_send, of_message, answers, returned, lent, lent_after, is_accepted, after}
 use Rattle.history.specs.Ledger.{held, entries_of, last_of}
 use Rattle.history.specs.Words.{is_authentic, echoed, retires, taken}
 use Rattle.history.specs.Demand.{Demand1}
+use Rattle.payload.proofs.Ends.{arrival_ends, send_ends}
 use Rattle.history.proofs.Ledgers.{Funded, ageings_held, ageings_funded}
-use Rattle.history.proofs.Traces.{is_heeded, Traced, traced_unheeded, traced_still, traced_expired, traced_resent, traced_message}
+use Rattle.history.proofs.Traces.{is_heeded, Traced, traced_unheeded, traced_still, traced_expired, traced_resent, traced_reading}
 
 -- ---- refusal 0
 -- "from a start on, no call yields such an association"
@@ -73,11 +66,7 @@ after_keeps (c ∷ cs) a p = after_keeps cs (returned a c) (keeps c a p)
 -- refusal 0 "comes first in every call but start"
 pub bad_refused : (a : Association) → refusal0 a ≡ true → (c : Call) → answers a c ≡ refused_by (refusal 0)
 unfolding handled arrival_of send_of ticks.handled announcements.handled
-bad_refused a p (message packet authentic nonces eight buffer) = rw p
-bad_refused a p (arrival size) = rw p
-bad_refused a p (send size) = rw p
-bad_refused a p (tick time buffer) = rw p
-bad_refused a p (announce list count inbound keymat buffer) = rw p
+bad_refused a p c = grind arith
 
 -- every call refuses what a refused start leaves
 pub none_refuses : (c : Call) → answers no_association c ≡ refused_by (refusal 0)
@@ -94,79 +83,58 @@ pub record Did (a : Association) (c : Call) (r : Answered) (left : Association) 
   -- a grant to UNVERIFIED is below the credit
   pub funded : Funded a.credit (entries_of a.aged a c r)
   -- an accepted message is authentic; no other call echoes anything
-  pub authentic : (n : ℕ) → is_accepted r ≡ true → echoed c ≡ some n → is_authentic c ≡ true
+  pub authentic : (n : ℕ) → is_accepted r ≡ true → echoed c ≡ Some n → is_authentic c ≡ true
   pub traced : (x : Address) → Traced (status_in x a.slots) (status_in x left.slots) (taken x a c r) (echoed c) (retires x a c) (is_heeded r)
 
 -- ---- a refusal
 refused_entries : (last : ℕ) (a : Association) (c : Call) (r : Refusal) → entries_of last a c (refused_by r) ≡ []
-refused_entries last a (message packet authentic nonces eight buffer) r = refl
-refused_entries last a (arrival size) r = refl
-refused_entries last a (send size) r = refl
-refused_entries last a (tick time buffer) r = refl
-refused_entries last a (announce list count inbound keymat buffer) r = refl
+refused_entries last a c r = grind arith
 
 refused_last : (last : ℕ) (c : Call) (r : Refusal) → last_of last c (refused_by r) ≡ last
-refused_last last (message packet authentic nonces eight buffer) r = refl
-refused_last last (arrival size) r = refl
-refused_last last (send size) r = refl
-refused_last last (tick time buffer) r = refl
-refused_last last (announce list count inbound keymat buffer) r = refl
+refused_last last c r = grind arith
 
-refused_taken : (x : Address) (a : Association) (c : Call) (r : Refusal) → taken x a c (refused_by r) ≡ none
-refused_taken x a (message packet authentic nonces eight buffer) r = refl
-refused_taken x a (arrival size) r = refl
-refused_taken x a (send size) r = refl
-refused_taken x a (tick time buffer) r = refl
-refused_taken x a (announce list count inbound keymat buffer) r = refl
+refused_taken : (x : Address) (a : Association) (c : Call) (r : Refusal) → taken x a c (refused_by r) ≡ None
+refused_taken x a c r = grind arith
 
 refused_did : (a : Association) (c : Call) (r : Refusal) → Did a c (refused_by r) a
 unfolding held Funded
 refused_did a c r = record {
   refused_same = λ e. refl;
   last = refused_last a.aged c r;
-  credit = ap (held a.credit) (refused_entries a.aged a c r);
-  funded = subst (Funded a.credit) (sym (refused_entries a.aged a c r)) tt;
-  authentic = λ n e. apart (sym e);
-  traced =
-      λ x.
-      subst (λ (o : Option ℕ). Traced (status_in x a.slots) (status_in x a.slots) o (echoed c) (retires x a c) false) (sym (refused_taken x a c r))
-      (traced_unheeded (status_in x a.slots) (echoed c) (retires x a c));
+  credit = rw (refused_entries a.aged a c r) refl;
+  funded = rw (refused_entries a.aged a c r) tt;
+  authentic = λ n e. cc;
+  traced = λ x. rw (refused_taken x a c r) (traced_unheeded (status_in x a.slots) (echoed c) (retires x a c));
 }
 
 -- ---- an arrival
--- a call that is no message echoes nothing, and one that is no tick tells no time
-pub no_echo : {A : Type 0} (n : ℕ) → ◌≡◌ {A = Option ℕ} none (some n) → A
-no_echo n f = apart (let z : true ≡ false = cc in z)
-
 -- what a call did, by its answer
 abbrev DidBy : Association → Call → Answer → Type 0
 DidBy a c r = Did a c (of_outcome r.outcome) r.association
 
 arrival_did : (a : Association) (size : ℕ) → DidBy a (arrival size) (arrival_of a size)
-unfolding arrival_of held Funded
+unfolding held Funded
 arrival_did a size =
-    cond_all (DidBy a (arrival size)) (refusal0 a) (refused 0 a) _ (λ e. refused_did a (arrival size) (refusal 0))
-    (λ e. cond_all (DidBy a (arrival size)) (refusal13 size) (refused 13 a) (accepted (with_credit a (credited a.credit size)))
-    (λ e. refused_did a (arrival size) (refusal 13))
-    (λ e. record {
-      refused_same = λ e. apart e;
+    arrival_ends a size (DidBy a (arrival size)) (λ n. refused_did a (arrival size) (refusal n))
+    (record {
+      refused_same = λ e. cc;
       last = refl;
       credit = refl;
       funded = (tt, tt);
-      authentic = λ n e f. no_echo n f;
+      authentic = λ n e f. cc;
       traced = λ x. traced_still (status_in x a.slots) true;
-    }))
+    })
 
 -- ---- a tick
 tick_did : (a : Association) (time : ℕ) (buffer : List ℕ) → Did a (tick time buffer) (answers a (tick time buffer)) (returned a (tick time buffer))
 tick_did a time buffer =
     tick_ends (λ (h : ticks.Ticked). Did a (tick time buffer) (of_outcome h.outcome) h.left) a (λ n. refused_did a (tick time buffer) (refusal n)) time (length buffer)
     (λ p. record {
-      refused_same = λ e. apart e;
+      refused_same = λ e. cc;
       last = refl;
       credit = ageings_held (ageings a.aged time) a.credit;
       funded = ageings_funded (ageings a.aged time) a.credit;
-      authentic = λ n e f. no_echo n f;
+      authentic = λ n e f. cc;
       traced =
           λ x.
           rw (resent_statuses x time (expire_all time a.slots))
@@ -182,11 +150,11 @@ announce_did a list count inbound keymat buffer =
     announcement_ends (λ h. Did a (announce list count inbound keymat buffer) (of_outcome h.outcome) h.left) a
     (λ n. refused_did a (announce list count inbound keymat buffer) (refusal n)) list count inbound keymat (length buffer)
     (λ p. record {
-      refused_same = λ e. apart e;
+      refused_same = λ e. cc;
       last = refl;
       credit = refl;
       funded = tt;
-      authentic = λ n e f. no_echo n f;
+      authentic = λ n e f. cc;
       traced = λ x. traced_still (status_in x a.slots) true;
     })
 
@@ -196,54 +164,37 @@ DidSend a size r = Did a (send size) (of_send r.outcome) r.association
 
 -- ACTIVE is not UNVERIFIED
 active_only : (o : Option Status) → found_as is_active o ≡ true → found_as is_unverified o ≡ false
-active_only none e = refl
-active_only (some (Unverified k)) e = sym e
-active_only (some Active) e = refl
-active_only (some Deprecated) e = refl
+active_only o e = grind arith
 
-to_did : (a : Association) (size : ℕ) (k : Path) → path_of a.preferred a.slots ≡ k → DidSend a size (send_to a size k)
+send_did : (a : Association) (size : ℕ) → DidSend a size (send_of a size)
 unfolding held Funded
-to_did a size NoCarrier e = refused_did a (send size) (refusal 14)
-to_did a size (ToActive n) e =
+send_did a size =
+    send_ends a size (DidSend a size) (λ n. refused_did a (send size) (refusal n))
+    (λ n e.
     let active = active_only (status_at n a.slots) (picked_active a.preferred a.slots n e) in
     record {
       refused_same = λ e. refl;
       last = refl;
       credit = rw active;
       funded = rw active tt;
-      authentic = λ n e f. no_echo n f;
+      authentic = λ n e f. cc;
       traced = λ x. traced_still (status_in x a.slots) true;
-    }
-to_did a size (ToUnverified n) e =
-    cond_all (DidSend a size) (covers a.credit size) (granted n (with_credit a (a.credit - size))) (denied 15 a)
-    (λ q.
+    })
+    (λ n e q.
     let unverified = picked_unverified a.preferred a.slots n e in
     record {
-      refused_same = λ e. apart e;
+      refused_same = λ e. cc;
       last = refl;
       credit = rw unverified;
       funded = rw unverified (covered_below a.credit size q, tt);
-      authentic = λ n e f. no_echo n f;
+      authentic = λ n e f. cc;
       traced = λ x. traced_still (status_in x a.slots) true;
     })
-    (λ q. refused_did a (send size) (refusal 15))
-
-send_did : (a : Association) (size : ℕ) → DidSend a size (send_of a size)
-unfolding send_of
-send_did a size =
-    cond_all (DidSend a size) (refusal0 a) (denied 0 a) _ (λ e. refused_did a (send size) (refusal 0))
-    (λ e. cond_all (DidSend a size) (refusal13 size) (denied 13 a) (send_to a size (path_of a.preferred a.slots))
-    (λ e. refused_did a (send size) (refusal 13))
-    (λ e. to_did a size (path_of a.preferred a.slots) refl))
 
 -- ---- a message
 -- a message that is not accepted is refused
-declined_is : (o : MessageOutcome) → is_accepted (of_message o) ≡ false → is_declined o ≡ true
-declined_is Moved e = sym e
-declined_is Replied e = sym e
-declined_is Responded e = sym e
-declined_is Repeated e = sym e
-declined_is (Declined r) e = refl
+declined_is : (o : Result Received Refusal) → is_accepted (of_message o) ≡ false → is_declined o ≡ true
+declined_is o e = grind arith
 
 message_did : (a : Association) (packet : List ℕ) (authentic : Bool) (nonces : List ℕ) (eight : length nonces ≡ nonce_count) (buffer : List ℕ) →
     Did a (message packet authentic nonces eight buffer) (answers a (message packet authentic nonces eight buffer)) (returned a (message packet authentic nonces eight buffer))
@@ -252,14 +203,14 @@ message_did a packet authentic nonces eight buffer =
     message_ends (λ h. Did a (message packet authentic nonces eight buffer) (of_message h.outcome) h.left) a
     (λ n. refused_did a (message packet authentic nonces eight buffer) (refusal n)) packet authentic nonces (length buffer)
     (λ p r q.
-    let left = message_untouched a packet (reading_of packet).message (reading_of packet).listed nonces in
+    let left = reading_untouched a packet (reading_of packet) nonces in
     record {
-      refused_same = λ e. left.association (declined_is (handle_message a packet (reading_of packet).message (reading_of packet).listed nonces).outcome e);
+      refused_same = λ e. left.association (declined_is (handle_reading a packet (reading_of packet) nonces).outcome e);
       last = left.aged;
       credit = left.credit;
       funded = tt;
       authentic = λ n e f. q;
-      traced = λ x. traced_message x a packet (reading_of packet).message (reading_of packet).listed nonces;
+      traced = λ x. traced_reading x a packet (reading_of packet) nonces;
     })
 
 pub did : (a : Association) (c : Call) → Did a c (answers a c) (returned a c)
@@ -271,9 +222,8 @@ did a (announce list count inbound keymat buffer) = announce_did a list count in
 
 -- ---- demand 1
 -- a tick or an announcement that is not accepted is refused
-refused_is : (o : Outcome) → is_accepted (of_outcome o) ≡ false → is_refused o ≡ true
-refused_is Accepted e = sym e
-refused_is (Refused r) e = refl
+refused_is : (o : Result ⊤ Refusal) → is_accepted (of_outcome o) ≡ false → is_refused o ≡ true
+refused_is o e = grind arith
 
 -- "writes nothing in the reply buffer": of each call, whatever it is lent
 refused_unwritten : (a : Association) (c : Call) → is_accepted (answers a c) ≡ false → lent_after a c ≡ lent c
@@ -289,23 +239,11 @@ refused_unwritten a (announce list count inbound keymat buffer) e =
     (refused_buffer a list count inbound keymat buffer (refused_is (announcements.handled a list count inbound keymat (length buffer)).outcome e))
 
 -- what is not accepted is a refusal
-abbrev reason_of : (r : Answered) → is_accepted r ≡ false → Refusal
-reason_of (refused_by r) e = r
-reason_of done e = apart e
-reason_of repeated e = apart e
-reason_of (granted_to n) e = apart e
-
-named_so : (r : Answered) (e : is_accepted r ≡ false) → r ≡ refused_by (reason_of r e)
-named_so (refused_by r) e = refl
-named_so done e = apart e
-named_so repeated e = apart e
-named_so (granted_to n) e = apart e
+named_so : (r : Answered) → is_accepted r ≡ false → (why : Refusal) × (r ≡ refused_by why)
+named_so r e = grind arith
 
 -- demand 1 holds of every call that is refused, on any association
 pub demand_1 : (a : Association) (c : Call) → is_accepted (answers a c) ≡ false → Demand1 a c
-demand_1 a c e = record {
-  reason = reason_of (answers a c) e;
-  named = named_so (answers a c) e;
-  given_back = (did a c).refused_same e;
-  unwritten = refused_unwritten a c e;
-}
+demand_1 a c e =
+    let so = named_so (answers a c) e in
+    record { reason = so.0; named = so.1; given_back = (did a c).refused_same e; unwritten = refused_unwritten a c e }

@@ -1,23 +1,23 @@
 -- The theorem: what demand 3 says holds of every sequence of calls from an accepted start. Assumes nothing.
 use mathlib.Core.Path.{◌≡◌, refl, sym, ◌∙◌, ap, subst}
 use mathlib.Core.Bool.{Bool, true, false, not, cond, ◌&&◌}
-use mathlib.Core.Option.{Option, none, some}
-use mathlib.Core.Logic.{◌≢◌, ◌⊎◌, inl, inr, ◌↔◌}
+use mathlib.Core.Logic.{◌≢◌, ◌⊎◌, ◌↔◌}
 use mathlib.Core.List.{List, [], ◌∷◌, ◌++◌}
 use Prim.Native.Nat.{ℕ, ◌≤◌}
-use lib.ListN.{length, take}
+use lib.ListN.{length}
 use native.Mathlib.Omega.{arith}
-use borrow.Author.Tests.{eqb-true, eq-eqb, not-true}
-use Rattle.boolean.proofs.Laws.{apart, and_true_left, and_true_right}
-use Rattle.octets.specs.Records as records
+use borrow.Author.Tests.{eqb-true, eq-eqb}
+use Rattle.std.specs.Prelude.{Err, None, Ok, Option, Result, Some}
+use Rattle.boolean.proofs.Laws.{apart}
+use Rattle.refusal.specs.declared.Refusal.{Refusal}
 use Rattle.address.specs.declared.Address.{Address}
 use Rattle.address.specs.Rules.{same_address}
 use Rattle.packet.specs.declared.Message.{Message}
-use Rattle.packet.specs.declared.Message.TheVariants.{Refused, Move, Reply, PeerCheck}
+use Rattle.packet.specs.declared.Message.TheVariants.{Move, Reply, PeerCheck}
 use Rattle.packet.specs.Readings.{reading_of, opaque_of}
 use Rattle.packet.proofs.Listed.{count_in, few_listed}
 use Rattle.locator.specs.declared.ListedLocator.{ListedLocator}
-use Rattle.locator_set.specs.Sets.{set_limit}
+use Rattle.locator_set.specs.Sets.{set_limit, listed_in}
 use Rattle.slot.specs.declared.Check.{Check}
 use Rattle.slot.specs.declared.Status.{Status}
 use Rattle.slot.specs.declared.Status.TheVariants.{Unverified, Active, Deprecated}
@@ -27,15 +27,14 @@ use Rattle.slots.proofs.Each.{All, all_imply}
 use Rattle.readdress.specs.Steps.{is_listed}
 use Rattle.readdress.proofs.Live.{is_dead, nonce_held}
 use Rattle.association.specs.declared.Association.{Association}
-use Rattle.association.specs.declared.Outcome.TheVariants.{Accepted}
 use Rattle.association.specs.Form.{accepted, refused}
 use Rattle.association.specs.Start.{refusal16, no_association, started, start_of}
 use Rattle.association.proofs.Sound.{Formed}
 use Rattle.association.proofs.Started.{started_formed, started_status}
-use Rattle.update.specs.Messages.{Handled, handle_message}
+use Rattle.update.specs.Messages.{Handled, handle_reading}
 use Rattle.update.proofs.Cases.{reply_ends, move_ends, check_ends, message_ends}
 use Rattle.update.proofs.Listed.{move_lists}
-use Rattle.history.specs.Calls.{Call, message, arrival, send, tick, announce, of_message, answers, returned, is_accepted, is_repeat, Step, step_of, history, after}
+use Rattle.history.specs.Calls.{Call, message, arrival, send, tick, announce, of_message, answers, returned, is_accepted, Step, step_of, history, after}
 use Rattle.history.specs.Ledger.{ledger, held, entries_of, last_of, credit_held}
 use Rattle.history.specs.Words.{echoed, lists, set_in, retires, leaves, outstanding_from, outstanding}
 use Rattle.history.specs.Demand.{Verifies, ledger_of, next, Demand3}
@@ -72,88 +71,78 @@ tracked x a [] = refl
 tracked x a (c ∷ cs) =
     ap (λ (o : Option ℕ). outstanding_from x o (history (returned a c) cs)) ((did a c).traced x).nonce ∙ tracked x (returned a c) cs
 
-is_active_lem : (o : Option Status) → found_as is_active o ≡ true → o ≡ some Active
-is_active_lem none p = cc
-is_active_lem (some (Unverified k)) p = cc
-is_active_lem (some Active) p = refl
-is_active_lem (some Deprecated) p = cc
+is_active_lem : (o : Option Status) → found_as is_active o ≡ true → o ≡ Some Active
+is_active_lem o p = grind arith
 
-echo_is : (o : Option ℕ) (n : ℕ) → is_echo o n ≡ true → o ≡ some n
-echo_is none n p = cc
-echo_is (some m) n p = ap some (eqb-true m n p)
-
-value_or : ℕ → Option ℕ → ℕ
-value_or d none = d
-value_or d (some n) = n
+echo_is : (o : Option ℕ) (n : ℕ) → is_echo o n ≡ true → o ≡ Some n
+echo_is None n p = cc
+echo_is (Some m) n p = ap Some (eqb-true m n p)
 
 verified_by : (x : Address) (h : List Step) (a : Association) (c : Call) (k : Check) → outstanding x h ≡ nonce_held (status_in x a.slots) →
-    status_in x a.slots ≡ some (Unverified k) → (leaves x (step_of a c) ≡ some Active) ↔ Verifies x h (step_of a c)
-unfolding value_or
+    status_in x a.slots ≡ Some (Unverified k) → (leaves x (step_of a c) ≡ Some Active) ↔ Verifies x h (step_of a c)
 verified_by x h a c k known found =
     let d = did a c in
     let turned = (d.traced x).verified k found in
     let heeded = is_heeded (answers a c) in
     let echoes = is_echo (echoed c) k.nonce in
     let kept = not (retires x a c) in
-    let outstanding_now : outstanding x h ≡ some k.nonce = known ∙ ap nonce_held found in (
+    let outstanding_now : outstanding x h ≡ Some k.nonce = known ∙ ap nonce_held found in (
       λ active.
           let all : (heeded && (echoes && kept)) ≡ true = sym turned ∙ ap (found_as is_active) active in
-          let first = and_true_left heeded (echoes && kept) all in
-          let rest = and_true_right heeded (echoes && kept) all in
-          let accepted = and_true_left (is_accepted (answers a c)) (not (is_repeat (answers a c))) first in
-          let echo = echo_is (echoed c) k.nonce (and_true_left echoes kept rest) in
+          let accepted : is_accepted (answers a c) ≡ true = grind arith in
+          let echo = echo_is (echoed c) k.nonce (grind arith) in
           record {
             authentic = d.authentic k.nonce accepted echo;
             accepted = accepted;
-            not_a_repeat = not-true (is_repeat (answers a c)) (and_true_right (is_accepted (answers a c)) (not (is_repeat (answers a c))) first);
+            not_a_repeat = grind arith;
             nonce = k.nonce;
             echoes = echo;
             outstanding_then = outstanding_now;
-            not_retired = not-true (retires x a c) (and_true_right echoes kept rest);
+            not_retired = grind arith;
           },
       λ v.
-          let same : v.nonce ≡ k.nonce = ap (value_or 0) (sym v.outstanding_then ∙ outstanding_now) in
+          let same : Some v.nonce ≡ Some k.nonce = sym v.outstanding_then ∙ outstanding_now in
+          let same_nonce : v.nonce ≡ k.nonce = cc in
           is_active_lem (leaves x (step_of a c))
-          (turned ∙ rw (v.accepted, v.not_a_repeat, v.echoes, v.not_retired, same, eq-eqb k.nonce k.nonce refl)),
+          (turned ∙ rw (v.accepted, v.not_a_repeat, v.echoes, v.not_retired, same_nonce, eq-eqb k.nonce k.nonce refl)),
     )
 
-revived_none : (x : Address) (a : Association) (c : Call) → is_dead (status_in x a.slots) ≡ true → leaves x (step_of a c) ≢ some Active
+revived_none : (x : Address) (a : Association) (c : Call) → is_dead (status_in x a.slots) ≡ true → leaves x (step_of a c) ≢ Some Active
 revived_none x a c dead active =
-    apart (sym (ap (found_as is_active) active) ∙ ((did a c).traced x).revived dead)
+    let r = ((did a c).traced x).revived dead in
+    cc
 
 -- ---- what a Move lists
 abbrev LeavesListed : Address → (set : List ListedLocator) → Handled → Type 0
 LeavesListed x set h = is_heeded (of_message h.outcome) ≡ true → is_listed x set ≡ true → is_dead (status_in x h.left.slots) ≡ false
 
-message_lists : (x : Address) (a : Association) (packet : List ℕ) (g : Message) (listed : List ListedLocator) (nonces : List ℕ) → count_in g ≤ set_limit → Formed a →
-    LeavesListed x (set_in g listed) (handle_message a packet g listed nonces)
-unfolding records.some
-message_lists x a packet (Refused why) listed nonces few p = λ h l. apart (sym h)
-message_lists x a packet (PeerCheck c) listed nonces few p =
+reading_lists : (x : Address) (a : Association) (packet : List ℕ) (r : Result Message Refusal) (nonces : List ℕ) → count_in r ≤ set_limit → Formed a →
+    LeavesListed x (set_in r) (handle_reading a packet r nonces)
+reading_lists x a packet (Err why) nonces few p = λ h l. apart (sym h)
+reading_lists x a packet (Ok (PeerCheck c)) nonces few p =
     check_ends (LeavesListed x []) a (λ n h. apart (sym h)) c.id (opaque_of packet c) (λ q h. apart (sym h)) (λ q h l. apart (sym l))
-message_lists x a packet (Reply e) listed nonces few p = reply_ends (LeavesListed x []) a (λ n h. apart (sym h)) e (λ h l. apart (sym l))
-message_lists x a packet (Move m) listed nonces few p =
-    move_ends (LeavesListed x (take m.count listed)) a (λ n h. apart (sym h)) m (take m.count listed) nonces (λ h. apart (sym h))
-    (λ q r h l. move_lists x a m listed nonces few p l)
+reading_lists x a packet (Ok (Reply e)) nonces few p = reply_ends (LeavesListed x []) a (λ n h. apart (sym h)) e (λ h l. apart (sym l))
+reading_lists x a packet (Ok (Move m set)) nonces few p =
+    move_ends (LeavesListed x (listed_in set)) a (λ n h. apart (sym h)) m (listed_in set) nonces (λ h. apart (sym h))
+    (λ q r h l. move_lists x a m set nonces few p l)
 
 lists_live : (x : Address) (a : Association) (c : Call) → Formed a → is_heeded (answers a c) ≡ true → lists x c ≡ true → is_dead (status_in x (returned a c).slots) ≡ false
 lists_live x a (message packet authentic nonces eight buffer) p =
-    message_ends (LeavesListed x (set_in (reading_of packet).message (reading_of packet).listed)) a (λ n h. apart (sym h)) packet authentic nonces (length buffer)
-    (λ q r s. message_lists x a packet (reading_of packet).message (reading_of packet).listed nonces (few_listed packet) p)
+    message_ends (LeavesListed x (set_in (reading_of packet))) a (λ n h. apart (sym h)) packet authentic nonces (length buffer)
+    (λ q r s. reading_lists x a packet (reading_of packet) nonces (few_listed packet) p)
 lists_live x a (arrival size) p = λ h l. apart (sym l)
 lists_live x a (send size) p = λ h l. apart (sym l)
 lists_live x a (tick time buffer) p = λ h l. apart (sym l)
 lists_live x a (announce list count inbound keymat buffer) p = λ h l. apart (sym l)
 
-not_dead : (o : Option Status) → is_dead o ≡ false → (o ≢ none) × (o ≢ some Deprecated)
-not_dead o p =
-    (λ q. let z : true ≡ false = ap is_dead (sym q) ∙ p in apart z, λ q. let z : true ≡ false = ap is_dead (sym q) ∙ p in apart z)
+not_dead : (o : Option Status) → is_dead o ≡ false → (o ≢ None) × (o ≢ Some Deprecated)
+not_dead o p = (λ q. cc, λ q. cc)
 
 -- ---- the claim
 -- where a sequence begins: credit 0, and no nonce and no check outstanding. What an accepted start makes is such an association
 pub record Begins (a : Association) : Type 0 where
   pub no_credit : a.credit ≡ 0
-  pub no_nonce : (x : Address) → nonce_held (status_in x a.slots) ≡ none
+  pub no_nonce : (x : Address) → nonce_held (status_in x a.slots) ≡ None
   pub no_check : All (Carries (λ (k : Check). ⊥)) a.slots
   pub formed : Formed a
 
@@ -183,24 +172,22 @@ demand_3_from a b cs =
       never_refused = formed.unrefused;
     }
   where
-    dead_found : (o : Option Status) → (o ≡ some Deprecated) ⊎ (o ≡ none) → is_dead o ≡ true
-    dead_found o (inl p) = rw p
-    dead_found o (inr p) = rw p
+    dead_found : (o : Option Status) → (o ≡ Some Deprecated) ⊎ (o ≡ None) → is_dead o ≡ true
+    dead_found o p = grind arith
 
-start_nonce : (b : Bool) → nonce_held (cond b (some Active) none) ≡ none
-start_nonce true = refl
-start_nonce false = refl
+start_nonce : (b : Bool) → nonce_held (cond b (Some Active) None) ≡ None
+start_nonce b = grind arith
 
 -- an accepted start
-start_begins : (time outbound inbound : ℕ) (address : Address) (lifetime : ℕ) → (start_of time outbound inbound address lifetime).outcome ≡ Accepted →
+start_begins : (time outbound inbound : ℕ) (address : Address) (lifetime : ℕ) → (start_of time outbound inbound address lifetime).outcome ≡ Ok tt →
     Begins (start_of time outbound inbound address lifetime).association
 unfolding start_of All
 start_begins time outbound inbound address lifetime e = go (refusal16 time outbound inbound address lifetime) refl e
   where
     go : (b : Bool) → refusal16 time outbound inbound address lifetime ≡ b →
-        (cond b (refused 16 no_association) (accepted (started time outbound inbound address lifetime))).outcome ≡ Accepted →
+        (cond b (refused 16 no_association) (accepted (started time outbound inbound address lifetime))).outcome ≡ Ok tt →
         Begins (cond b (refused 16 no_association) (accepted (started time outbound inbound address lifetime))).association
-    go true p q = let z : ◌≡◌ {A = ℕ} 0 1 = cc in absurd (omega arith)
+    go true p q = cc
     go false p q = record {
       no_credit = refl;
       no_nonce = λ x. ap nonce_held (started_status time outbound inbound address lifetime x) ∙ start_nonce (same_address x address);
@@ -209,7 +196,7 @@ start_begins time outbound inbound address lifetime e = go (refusal16 time outbo
     }
 
 -- "Take every sequence of messages, arrivals, sends and ticks on one newly started association, refused calls included."
-pub demand_3 : (time outbound inbound : ℕ) (address : Address) (lifetime : ℕ) → (start_of time outbound inbound address lifetime).outcome ≡ Accepted → (cs : List Call) →
+pub demand_3 : (time outbound inbound : ℕ) (address : Address) (lifetime : ℕ) → (start_of time outbound inbound address lifetime).outcome ≡ Ok tt → (cs : List Call) →
     Demand3 (start_of time outbound inbound address lifetime).association cs
 demand_3 time outbound inbound address lifetime e cs =
     demand_3_from (start_of time outbound inbound address lifetime).association (start_begins time outbound inbound address lifetime e) cs

@@ -1,19 +1,15 @@
 -- The calls that may follow a start, what each answers and returns, and a sequence of them.
-use Rattle.std.specs.Prelude.{ℕ, ◌≡◌, Bool, true, false, List, [], ◌∷◌, length}
+use Rattle.std.specs.Prelude.{ℕ, ◌≡◌, Bool, true, false, List, [], ◌∷◌, length, Err, Ok, Result, ⊤}
 use Rattle.refusal.specs.declared.Refusal.{Refusal}
 use Rattle.association.specs.declared.Association.{Association}
-use Rattle.association.specs.declared.Outcome.{Outcome}
-use Rattle.association.specs.declared.Outcome.TheVariants.{Accepted, Refused}
-use Rattle.payload.specs.declared.SendOutcome.{SendOutcome}
-use Rattle.payload.specs.declared.SendOutcome.TheVariants.{Granted, Denied}
 use Rattle.payload.specs.Calls.{arrival_of, send_of}
 use Rattle.clock.specs.Ticks as ticks
 use Rattle.reply_form.specs.Replies.{nonce_count}
-use Rattle.update.specs.declared.MessageOutcome.{MessageOutcome}
-use Rattle.update.specs.declared.MessageOutcome.TheVariants.{Moved, Replied, Responded, Repeated, Declined}
 use Rattle.update.specs.Messages.{message_of, buffer_after}
 use Rattle.announcement.specs.declared.OwnLocator.{OwnLocator}
 use Rattle.announcement.specs.Announcements as announcements
+use Rattle.update.specs.declared.Received.{Received}
+use Rattle.update.specs.declared.Received.TheVariants.{Moved, Repeated, Replied, Responded}
 
 -- a call with its inputs. A message brings the packet's bytes, the mark, "eight nonces", and a lent reply buffer of any length; a tick its time and a lent
 -- buffer of any length; an announcement our list, how many of its entries count, the new inbound SPI, the KEYMAT Index, and a lent buffer
@@ -32,22 +28,22 @@ pub data Answered : Type 0 where
   granted_to : (slot : ℕ) → Answered
 
 -- what the answer to an arrival, a tick or an announcement says
-abbrev pub of_outcome : Outcome → Answered
-of_outcome Accepted = done
-of_outcome (Refused r) = refused_by r
+abbrev pub of_outcome : Result ⊤ Refusal → Answered
+of_outcome (Ok tt) = done
+of_outcome (Err r) = refused_by r
 
 -- what the answer to a send says
-abbrev pub of_send : SendOutcome → Answered
-of_send (Granted n) = granted_to n
-of_send (Denied r) = refused_by r
+abbrev pub of_send : Result ℕ Refusal → Answered
+of_send (Ok n) = granted_to n
+of_send (Err r) = refused_by r
 
 -- what the answer to a message says
-abbrev pub of_message : MessageOutcome → Answered
-of_message Moved = done
-of_message Replied = done
-of_message Responded = done
-of_message Repeated = repeated
-of_message (Declined r) = refused_by r
+abbrev pub of_message : Result Received Refusal → Answered
+of_message (Ok Moved) = done
+of_message (Ok Replied) = done
+of_message (Ok Responded) = done
+of_message (Ok Repeated) = repeated
+of_message (Err r) = refused_by r
 
 -- the answer to the call
 abbrev pub answers : Association → Call → Answered

@@ -1,7 +1,6 @@
 -- Demands 1 and 3 as claims, in the users' words, which stand in quotation marks; what is document 01's says so. `proofs/Calls.antt` proves demand 1 of
 -- every call, and `proofs/Theorem.antt` demand 3 of every sequence from an accepted start.
-use Rattle.std.specs.Prelude.{ℕ, ◌+◌, ◌*◌, ◌^◌, ◌≤◌, ◌≡◌, true, false, ◌≢◌, ◌⊎◌, ◌↔◌, List, ◌∷◌, ◌++◌}
-use Rattle.std.proofs.Math.Option.{none, some}
+use Rattle.std.specs.Prelude.{ℕ, ◌+◌, ◌*◌, ◌^◌, ◌≤◌, ◌≡◌, true, false, ◌≢◌, ◌⊎◌, ◌↔◌, List, ◌∷◌, ◌++◌, None, Some}
 use Rattle.refusal.specs.declared.Refusal.{Refusal}
 use Rattle.address.specs.declared.Address.{Address}
 use Rattle.check_times.specs.Times.{check_life}
@@ -36,8 +35,8 @@ pub record Verifies (x : Address) (h : List Step) (s : Step) : Type 0 where
   pub not_a_repeat : is_repeat s.answered ≡ false
   -- "echoes the nonce outstanding for that address at that moment"
   pub nonce : ℕ
-  pub echoes : echoed s.call ≡ some nonce
-  pub outstanding_then : outstanding x h ≡ some nonce
+  pub echoes : echoed s.call ≡ Some nonce
+  pub outstanding_then : outstanding x h ≡ Some nonce
   -- "does not itself retire it, by a changed SPI or a list without it"
   pub not_retired : retires x s.found s.call ≡ false
 
@@ -64,19 +63,19 @@ pub record Demand3 (a : Association) (cs : List Call) : Type 0 where
   pub decayed : (before among since rest : List Entry) → ledger_of a cs ≡ before ++ (among ++ (since ++ rest)) → NoArrival among → NoArrival since →
       8 ^ ageings_in among * granted_in since ≤ 7 ^ ageings_in among * credit_held before
   -- "A call that finds an address UNVERIFIED leaves it ACTIVE exactly when" `Verifies` holds, which has the rest of the sentence
-  pub verified_exactly : (c : Call) (x : Address) (k : Check) → finds x (next a cs c) ≡ some (Unverified k) →
-      (leaves x (next a cs c) ≡ some Active) ↔ Verifies x (history a cs) (next a cs c)
+  pub verified_exactly : (c : Call) (x : Address) (k : Check) → finds x (next a cs c) ≡ Some (Unverified k) →
+      (leaves x (next a cs c) ≡ Some Active) ↔ Verifies x (history a cs) (next a cs c)
   -- "No call makes an address ACTIVE that it finds DEPRECATED or not held."
-  pub never_revived : (c : Call) (x : Address) → (finds x (next a cs c) ≡ some Deprecated) ⊎ (finds x (next a cs c) ≡ none) →
-      leaves x (next a cs c) ≢ some Active
+  pub never_revived : (c : Call) (x : Address) → (finds x (next a cs c) ≡ Some Deprecated) ⊎ (finds x (next a cs c) ≡ None) →
+      leaves x (next a cs c) ≢ Some Active
   -- Document 01 of step 5: "Room is always found.": an accepted Move leaves every address that it lists ACTIVE or UNVERIFIED
   pub listed_held_lem : (c : Call) (x : Address) → is_accepted (next a cs c).answered ≡ true → is_repeat (next a cs c).answered ≡ false → lists x c ≡ true →
-      (leaves x (next a cs c) ≢ none) × (leaves x (next a cs c) ≢ some Deprecated)
+      (leaves x (next a cs c) ≢ None) × (leaves x (next a cs c) ≢ Some Deprecated)
   -- Order 4: "no check is still outstanding after that tick", the first accepted one "16 or more seconds after issue". The check of this Update ID is issued by the
   -- Move `issuing`, at the time of the last accepted tick before it, or the stored time at the beginning; `ending` is an accepted tick, at `time`; and `rest` is any
   -- calls that follow it
   pub given_up_lem : (before between rest : List Step) (issuing ending : Step) (id time : ℕ) → history a cs ≡ before ++ (issuing ∷ (between ++ (ending ∷ rest))) →
-      Issues id (next_id a.next before) issuing → ticked_at ending.call ending.answered ≡ some time → last_tick a.time before + check_life ≤ time →
+      Issues id (next_id a.next before) issuing → ticked_at ending.call ending.answered ≡ Some time → last_tick a.time before + check_life ≤ time →
       is_outstanding id (after a cs) ≡ false
   -- Document 01 of refusal 0: "from a start on, no call yields such an association"
   pub never_refused : refusal0 (after a cs) ≡ false

@@ -1,7 +1,6 @@
 -- Worked examples, computed from the definitions: each word of demands 1 and 3 on calls and runs that tell it from its neighbours.
-use Rattle.std.specs.Prelude.{ℕ, ◌+◌, ◌≡◌, refl, Bool, true, false, List, [], ◌∷◌, ◌++◌, map, replicate}
+use Rattle.std.specs.Prelude.{ℕ, ◌+◌, ◌≡◌, refl, Bool, true, false, List, [], ◌∷◌, ◌++◌, map, replicate, Err, None, Ok, Option, Some}
 use Prim.Native.String.{String}
-use Rattle.std.proofs.Math.Option.{Option, none, some}
 use Rattle.refusal.specs.Table.{refusal}
 use Rattle.octets.specs.ExamplesHex.{hex}
 use Rattle.address.specs.declared.Address.{Address}
@@ -9,13 +8,8 @@ use Rattle.slot.specs.declared.Status.{Status}
 use Rattle.slot.specs.declared.Status.TheVariants.{Unverified, Active, Deprecated}
 use Rattle.slot.specs.declared.Slot.{Slot}
 use Rattle.slot.specs.Found.{empty_slot, slot_of}
-use Rattle.path.specs.declared.Preference.TheVariants.{Prefers}
-use Rattle.association.specs.declared.PeerId.{PeerId}
-use Rattle.association.specs.declared.PeerId.TheVariants.{NoneSeen, Highest}
 use Rattle.association.specs.declared.Association.{Association}
-use Rattle.association.specs.declared.Outcome.TheVariants.{Accepted, Refused}
-use Rattle.payload.specs.declared.SendOutcome.TheVariants.{Granted, Denied}
-use Rattle.update.specs.declared.MessageOutcome.TheVariants.{Moved, Replied, Repeated, Declined}
+use Rattle.update.specs.declared.Received.TheVariants.{Moved, Repeated, Replied}
 use Rattle.history.specs.Calls.{Call, message, arrival, send, tick, refused_by, done, repeated, granted_to, of_outcome, of_send, of_message, answers, returned, lent, lent_after, is_accepted, is_repeat, step_of, history, after}
 use Rattle.history.specs.Ledger.{Entry, arrived, granted, ageing, entries_of, last_of, ledger, held, credit_held, arrived_in, granted_in, ageings_in, NoArrival}
 use Rattle.history.specs.Words.{finds, leaves, is_authentic, echoed, lists, retires, taken, outstanding}
@@ -112,7 +106,7 @@ abbrev waiting : (nonce id : ℕ) → Status
 waiting nonce id = Unverified (record { nonce = nonce; id = id; issued = 102; resends = 0 })
 
 -- at 102, where the last ageing was at 100
-abbrev with : (credit next : ℕ) → PeerId → List Slot → Association
+abbrev with : (credit next : ℕ) → Option ℕ → List Slot → Association
 with credit next peer slots = record {
   outbound = 0x2001;
   inbound = 0x1001;
@@ -121,27 +115,27 @@ with credit next peer slots = record {
   credit = credit;
   peer = peer;
   next = next;
-  preferred = Prefers 0;
+  preferred = Some 0;
   slots = slots;
 }
 
 -- address 1 is ACTIVE, and nothing else is held
 abbrev pub begun : Association
-begun = with 0 0 NoneSeen (until 160 1 Active ∷ replicate 7 empty_slot)
+begun = with 0 0 None (until 160 1 Active ∷ replicate 7 empty_slot)
 
 -- after the first Move
 abbrev pub moved : Association
-moved = with 0 1 (Highest 0) (until 162 1 Active ∷ until 162 2 (waiting 0x51 0) ∷ replicate 6 empty_slot)
+moved = with 0 1 (Some 0) (until 162 1 Active ∷ until 162 2 (waiting 0x51 0) ∷ replicate 6 empty_slot)
 
 -- a slot of each status, and an empty one
 abbrev mixed : Association
-mixed = with 500 1 (Highest 0) (until 160 1 Active ∷ until 160 2 (waiting 0x51 0) ∷ until 160 3 Deprecated ∷ replicate 5 empty_slot)
+mixed = with 500 1 (Some 0) (until 160 1 Active ∷ until 160 2 (waiting 0x51 0) ∷ until 160 3 Deprecated ∷ replicate 5 empty_slot)
 
 -- ---- what calls answer and return
 -- what each outcome says; "Accepted: answered without a refusal number", "A repeat is answered Repeated."
-outcomes : (map of_outcome (Accepted ∷ Refused (refusal 12) ∷ []) ≡ done ∷ refused_by (refusal 12) ∷ [])
-    × (map of_send (Granted 3 ∷ Denied (refusal 15) ∷ []) ≡ granted_to 3 ∷ refused_by (refusal 15) ∷ [])
-    × (map of_message (Moved ∷ Replied ∷ Repeated ∷ Declined (refusal 8) ∷ []) ≡ done ∷ done ∷ repeated ∷ refused_by (refusal 8) ∷ [])
+outcomes : (map of_outcome (Ok tt ∷ Err (refusal 12) ∷ []) ≡ done ∷ refused_by (refusal 12) ∷ [])
+    × (map of_send (Ok 3 ∷ Err (refusal 15) ∷ []) ≡ granted_to 3 ∷ refused_by (refusal 15) ∷ [])
+    × (map of_message (Ok Moved ∷ Ok Replied ∷ Ok Repeated ∷ Err (refusal 8) ∷ []) ≡ done ∷ done ∷ repeated ∷ refused_by (refusal 8) ∷ [])
     × (map is_accepted (done ∷ repeated ∷ granted_to 0 ∷ refused_by (refusal 0) ∷ []) ≡ true ∷ true ∷ true ∷ false ∷ [])
     × (map is_repeat (done ∷ repeated ∷ granted_to 0 ∷ refused_by (refusal 0) ∷ []) ≡ false ∷ true ∷ false ∷ false ∷ [])
 outcomes = (refl, refl, refl, refl, refl)
@@ -166,7 +160,7 @@ buffers = (refl, refl, refl)
 made : (map (answers begun) (first ∷ marked false (reply "00000051") 1 ∷ arrival 5 ∷ arrival 0 ∷ send 5 ∷ send 0 ∷ tick_at 103 ∷ tick_at 101 ∷ [])
     ≡ done ∷ refused_by (refusal 2) ∷ done ∷ refused_by (refusal 13) ∷ granted_to 0 ∷ refused_by (refusal 13) ∷ done ∷ refused_by (refusal 12) ∷ [])
     × (map (returned begun) (first ∷ marked false (reply "00000051") 1 ∷ arrival 5 ∷ arrival 0 ∷ send 5 ∷ send 0 ∷ tick_at 102 ∷ tick_at 101 ∷ [])
-    ≡ moved ∷ begun ∷ with 5 0 NoneSeen (until 160 1 Active ∷ replicate 7 empty_slot) ∷ replicate 5 begun)
+    ≡ moved ∷ begun ∷ with 5 0 None (until 160 1 Active ∷ replicate 7 empty_slot) ∷ replicate 5 begun)
     × (answers moved first ≡ repeated)
     × (returned moved first ≡ moved)
     × ((returned moved (tick_at 104)).time ≡ 104)
@@ -240,8 +234,8 @@ not_quiet = (λ among. among, λ among. among)
 
 -- ---- words about one address
 -- "Finds and leaves": addresses 1 to 3 about the second Move, which retires address 2
-found_and_left : (map (λ (n : ℕ). finds (address n) (step_of moved second)) (1 ∷ 2 ∷ 3 ∷ []) ≡ some Active ∷ some (waiting 0x51 0) ∷ none ∷ [])
-    × (map (λ (n : ℕ). leaves (address n) (step_of moved second)) (1 ∷ 2 ∷ 3 ∷ []) ≡ some Active ∷ some Deprecated ∷ none ∷ [])
+found_and_left : (map (λ (n : ℕ). finds (address n) (step_of moved second)) (1 ∷ 2 ∷ 3 ∷ []) ≡ Some Active ∷ Some (waiting 0x51 0) ∷ None ∷ [])
+    × (map (λ (n : ℕ). leaves (address n) (step_of moved second)) (1 ∷ 2 ∷ 3 ∷ []) ≡ Some Active ∷ Some Deprecated ∷ None ∷ [])
 unfolding sequences
 found_and_left = (refl, refl)
 
@@ -253,8 +247,8 @@ authentic = (refl, refl)
 -- the nonce that a call echoes: a Move, a Reply; none where there is no echo response of 8 bytes, in a packet that is refused, and in another call
 echoes : (map (λ (s : List ℕ). echoed (brings s 1))
     (echoing_one "00002001" "00000001" "00000051" ∷ reply "00000052" ∷ move_one "00002001" "00000001" ∷ short_reply ∷ malformed ∷ [])
-    ≡ some 0x51 ∷ some 0x52 ∷ none ∷ none ∷ none ∷ [])
-    × (map echoed (arrival 1 ∷ send 1 ∷ tick_at 103 ∷ []) ≡ replicate 3 none)
+    ≡ Some 0x51 ∷ Some 0x52 ∷ None ∷ None ∷ None ∷ [])
+    × (map echoed (arrival 1 ∷ send 1 ∷ tick_at 103 ∷ []) ≡ replicate 3 None)
 unfolding sequences
 echoes = (refl, refl)
 
@@ -276,11 +270,11 @@ retiring = (refl, refl, refl)
 
 -- "the one taken for it by the .. accepted Move that gave it a check": by the first Move address 2; by one with a new SPI both; a repeat, a refused
 -- Move and other calls give none
-takes : (map (λ (n : ℕ). taken (address n) begun first done) (1 ∷ 2 ∷ 3 ∷ []) ≡ none ∷ some 0x51 ∷ none ∷ [])
-    × (map (λ (n : ℕ). taken (address n) moved rebinding done) (1 ∷ 2 ∷ 3 ∷ []) ≡ some 0x61 ∷ some 0x62 ∷ none ∷ [])
-    × (map (taken (address 2) begun first) (repeated ∷ refused_by (refusal 2) ∷ []) ≡ none ∷ none ∷ [])
+takes : (map (λ (n : ℕ). taken (address n) begun first done) (1 ∷ 2 ∷ 3 ∷ []) ≡ None ∷ Some 0x51 ∷ None ∷ [])
+    × (map (λ (n : ℕ). taken (address n) moved rebinding done) (1 ∷ 2 ∷ 3 ∷ []) ≡ Some 0x61 ∷ Some 0x62 ∷ None ∷ [])
+    × (map (taken (address 2) begun first) (repeated ∷ refused_by (refusal 2) ∷ []) ≡ None ∷ None ∷ [])
     × (map (λ (c : Call). taken (address 2) begun c done) (answering "00000051" ∷ brings malformed 1 ∷ arrival 1 ∷ send 1 ∷ tick_at 103 ∷ [])
-    ≡ replicate 5 none)
+    ≡ replicate 5 None)
 unfolding sequences
 takes = (refl, refl, refl, refl)
 
@@ -297,9 +291,9 @@ pending : (map outstanding_after
     ∷ (first ∷ third ∷ [])
     ∷ (first ∷ answering "00000052" ∷ [])
     ∷ [])
-    ≡ replicate 5 (some 0x51))
-    × (map outstanding_after ([] ∷ (first ∷ second ∷ []) ∷ (first ∷ answering "00000051" ∷ []) ∷ (first ∷ tick_at 118 ∷ []) ∷ []) ≡ replicate 4 none)
-    × (map outstanding_after ((first ∷ second ∷ third ∷ []) ∷ (first ∷ rebinding ∷ []) ∷ []) ≡ some 0x71 ∷ some 0x62 ∷ [])
-    × (outstanding (address 1) (history begun (first ∷ rebinding ∷ [])) ≡ some 0x61)
+    ≡ replicate 5 (Some 0x51))
+    × (map outstanding_after ([] ∷ (first ∷ second ∷ []) ∷ (first ∷ answering "00000051" ∷ []) ∷ (first ∷ tick_at 118 ∷ []) ∷ []) ≡ replicate 4 None)
+    × (map outstanding_after ((first ∷ second ∷ third ∷ []) ∷ (first ∷ rebinding ∷ []) ∷ []) ≡ Some 0x71 ∷ Some 0x62 ∷ [])
+    × (outstanding (address 1) (history begun (first ∷ rebinding ∷ [])) ≡ Some 0x61)
 unfolding sequences
 pending = (refl, refl, refl, refl)

@@ -1,13 +1,10 @@
 -- Worked examples, computed from the definitions: each word of demands 1 and 3 on an announcement and on a Check, which order 1 brings.
-use Rattle.std.specs.Prelude.{ℕ, ◌≡◌, refl, true, false, List, [], ◌∷◌, ◌++◌, map, replicate}
-use Rattle.std.proofs.Math.Option.{none, some}
+use Rattle.std.specs.Prelude.{ℕ, ◌≡◌, refl, true, false, List, [], ◌∷◌, ◌++◌, map, replicate, None, Ok, Option, Some}
 use Rattle.refusal.specs.Table.{refusal}
 use Rattle.octets.specs.ExamplesHex.{hex}
-use Rattle.association.specs.declared.PeerId.{PeerId}
-use Rattle.association.specs.declared.PeerId.TheVariants.{NoneSeen, Highest}
 use Rattle.association.specs.declared.Association.{Association}
-use Rattle.update.specs.declared.MessageOutcome.TheVariants.{Responded}
 use Rattle.announcement.specs.declared.OwnLocator.{OwnLocator}
+use Rattle.update.specs.declared.Received.TheVariants.{Responded}
 use Rattle.history.specs.Calls.{Call, arrival, announce, refused_by, done, repeated, of_message, answers, returned, lent, lent_after, history, after}
 use Rattle.history.specs.Ledger.{arrived, entries_of, last_of}
 use Rattle.history.specs.Words.{is_authentic, echoed, lists, retires, taken, outstanding}
@@ -37,7 +34,7 @@ check = brings (packet 6 (hex "01810004 00000001" ++ hex "03810002 aabb0000")) 0
 
 -- ---- what they answer and return
 -- an association with this inbound SPI, highest Update ID and next own one, else as `begun`
-abbrev with : (inbound : ℕ) → PeerId → (next : ℕ) → Association
+abbrev with : (inbound : ℕ) → Option ℕ → (next : ℕ) → Association
 with inbound peer next = record {
   outbound = begun.outbound;
   inbound = inbound;
@@ -51,10 +48,10 @@ with inbound peer next = record {
 }
 
 made : (map (answers begun) (accepts ∷ refuses ∷ announcing 0 [] ∷ check ∷ []) ≡ done ∷ refused_by (refusal 21) ∷ refused_by (refusal 17) ∷ done ∷ [])
-    × (map (returned begun) (accepts ∷ refuses ∷ check ∷ []) ≡ with 0x1002 NoneSeen 1 ∷ begun ∷ with 0x1001 (Highest 1) 0 ∷ [])
+    × (map (returned begun) (accepts ∷ refuses ∷ check ∷ []) ≡ with 0x1002 None 1 ∷ begun ∷ with 0x1001 (Some 1) 0 ∷ [])
     × (answers (after begun (check ∷ [])) check ≡ repeated)
     × (returned (after begun (check ∷ [])) check ≡ after begun (check ∷ []))
-    × (of_message Responded ≡ done)
+    × (of_message (Ok Responded) ≡ done)
 unfolding sequences
 made = (refl, refl, refl, refl, refl)
 
@@ -80,14 +77,14 @@ entries = (refl, refl, refl)
 
 -- an announcement is not marked authentic, and a Check is a message; they echo, list, retire and take nothing, also of an address that is announced
 words : (map is_authentic (accepts ∷ check ∷ []) ≡ false ∷ true ∷ [])
-    × (map echoed (accepts ∷ check ∷ []) ≡ none ∷ none ∷ [])
+    × (map echoed (accepts ∷ check ∷ []) ≡ None ∷ None ∷ [])
     × (map (lists (address 2)) (accepts ∷ check ∷ []) ≡ false ∷ false ∷ [])
     × (map (retires (address 2) begun) (accepts ∷ check ∷ []) ≡ false ∷ false ∷ [])
-    × (map (λ (c : Call). taken (address 2) begun c done) (accepts ∷ check ∷ []) ≡ none ∷ none ∷ [])
+    × (map (λ (c : Call). taken (address 2) begun c done) (accepts ∷ check ∷ []) ≡ None ∷ None ∷ [])
 unfolding sequences
 words = (refl, refl, refl, refl, refl)
 
 -- a nonce that is outstanding stays so through both
-pending : outstanding (address 2) (history begun (first ∷ accepts ∷ check ∷ refuses ∷ [])) ≡ some 0x51
+pending : outstanding (address 2) (history begun (first ∷ accepts ∷ check ∷ refuses ∷ [])) ≡ Some 0x51
 unfolding sequences
 pending = refl

@@ -1,7 +1,6 @@
 -- What the claims of demands 1 and 3 say of single runs: each part of them, used on a run where it says something, and each condition of a call that verifies
 -- an address, where it is the one that fails.
-use Rattle.std.specs.Prelude.{◌≤◌, ◌≡◌, refl, true, false, ◌≢◌, List, [], ◌∷◌, replicate}
-use Rattle.std.proofs.Math.Option.{none, some}
+use Rattle.std.specs.Prelude.{◌≤◌, ◌≡◌, refl, true, false, ◌≢◌, List, [], ◌∷◌, replicate, None, Some}
 use Rattle.std.proofs.Common.{inl, inr}
 use Rattle.refusal.specs.Table.{refusal}
 use Rattle.slot.specs.declared.Status.TheVariants.{Active, Deprecated}
@@ -43,15 +42,15 @@ repeats : Verifies (address 2) before (answered (answering "00000051") repeated)
 repeats v = v.not_a_repeat
 
 -- "that echoes the nonce outstanding for that address at that moment": another nonce, none, and a nonce when none is outstanding do not
-other_nonce : (v : Verifies (address 2) before (answered (answering "00000052") done)) → (some 0x52 ≡ some v.nonce) × (some 0x51 ≡ some v.nonce)
+other_nonce : (v : Verifies (address 2) before (answered (answering "00000052") done)) → (Some 0x52 ≡ Some v.nonce) × (Some 0x51 ≡ Some v.nonce)
 unfolding sequences
 other_nonce v = (v.echoes, v.outstanding_then)
 
-no_nonce : (v : Verifies (address 2) before (answered (brings (move_two "00002001" "00000001") 0x61) done)) → none ≡ some v.nonce
+no_nonce : (v : Verifies (address 2) before (answered (brings (move_two "00002001" "00000001") 0x61) done)) → None ≡ Some v.nonce
 unfolding sequences
 no_nonce v = v.echoes
 
-none_outstanding : (v : Verifies (address 2) (history begun (first ∷ second ∷ [])) (answered (answering "00000051") done)) → none ≡ some v.nonce
+none_outstanding : (v : Verifies (address 2) (history begun (first ∷ second ∷ [])) (answered (answering "00000051") done)) → None ≡ Some v.nonce
 unfolding sequences
 none_outstanding v = v.outstanding_then
 
@@ -119,18 +118,18 @@ decays_in_a_tick d = (
 
 -- "A call that finds an address UNVERIFIED leaves it ACTIVE exactly when" it verifies it: both ways, after the first Move
 exactly : (c : Call) → Demand3 begun (first ∷ []) →
-    (leaves (address 2) (next begun (first ∷ []) c) ≡ some Active → Verifies (address 2) before (next begun (first ∷ []) c))
-    × (Verifies (address 2) before (next begun (first ∷ []) c) → leaves (address 2) (next begun (first ∷ []) c) ≡ some Active)
+    (leaves (address 2) (next begun (first ∷ []) c) ≡ Some Active → Verifies (address 2) before (next begun (first ∷ []) c))
+    × (Verifies (address 2) before (next begun (first ∷ []) c) → leaves (address 2) (next begun (first ∷ []) c) ≡ Some Active)
 unfolding sequences
 exactly c d = d.verified_exactly c (address 2) (record { nonce = 0x51; id = 0; issued = 102; resends = 0 }) refl
 
 -- "No call makes an address ACTIVE that it finds DEPRECATED or not held.": address 2 after the second Move, and address 3
 never : (c : Call) → Demand3 begun (first ∷ second ∷ []) →
-    (leaves (address 2) (next begun (first ∷ second ∷ []) c) ≢ some Active) × (leaves (address 3) (next begun (first ∷ second ∷ []) c) ≢ some Active)
+    (leaves (address 2) (next begun (first ∷ second ∷ []) c) ≢ Some Active) × (leaves (address 3) (next begun (first ∷ second ∷ []) c) ≢ Some Active)
 unfolding sequences
 never c d = (d.never_revived c (address 2) (inl refl), d.never_revived c (address 3) (inr refl))
 
 -- "Room is always found.": the first Move leaves address 2 neither unheld nor DEPRECATED
-room : Demand3 begun [] → (leaves (address 2) (step_of begun first) ≢ none) × (leaves (address 2) (step_of begun first) ≢ some Deprecated)
+room : Demand3 begun [] → (leaves (address 2) (step_of begun first) ≢ None) × (leaves (address 2) (step_of begun first) ≢ Some Deprecated)
 unfolding sequences
 room d = d.listed_held_lem first (address 2) refl refl refl

@@ -1,6 +1,5 @@
 -- Worked examples, computed from the definitions: the words of order 4 about checks, and its part of the claim.
-use Rattle.std.specs.Prelude.{ℕ, ◌≡◌, refl, true, false, List, [], ◌∷◌, ◌++◌, map, replicate}
-use Rattle.std.proofs.Math.Option.{none, some}
+use Rattle.std.specs.Prelude.{ℕ, ◌≡◌, refl, true, false, List, [], ◌∷◌, ◌++◌, map, replicate, None, Some}
 use Rattle.std.proofs.Common.{arith}
 use Rattle.refusal.specs.Table.{refusal}
 use Rattle.octets.specs.ExamplesHex.{hex}
@@ -60,9 +59,9 @@ ids n = (
 
 -- ---- the time
 -- an accepted tick tells its time, and nothing else does
-times : (map (ticked_at (tick_at 103)) (done ∷ refused_by (refusal 12) ∷ []) ≡ some 103 ∷ none ∷ [])
-    × (map (λ (c : Call). ticked_at c done) (first ∷ arrival 1 ∷ send 1 ∷ accepts ∷ []) ≡ replicate 4 none)
-    × (map (time_or 102) (none ∷ some 103 ∷ []) ≡ 102 ∷ 103 ∷ [])
+times : (map (ticked_at (tick_at 103)) (done ∷ refused_by (refusal 12) ∷ []) ≡ Some 103 ∷ None ∷ [])
+    × (map (λ (c : Call). ticked_at c done) (first ∷ arrival 1 ∷ send 1 ∷ accepts ∷ []) ≡ replicate 4 None)
+    × (map (time_or 102) (None ∷ Some 103 ∷ []) ≡ 102 ∷ 103 ∷ [])
 unfolding sequences
 times = (refl, refl, refl)
 

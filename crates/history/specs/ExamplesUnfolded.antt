@@ -1,7 +1,7 @@
 -- One name for the definitions that a call computes with and that do not unfold by themselves, and one for those of a history. Examples alone use
 -- them.
 use Rattle.std.specs.Prelude.{ℕ}
-use Rattle.octets.specs.Records.{records, some}
+use Rattle.octets.specs.Records.{records}
 use Rattle.octets.specs.Written.{bytes_of}
 use Rattle.address.specs.Rules.{legal}
 use Rattle.parameter.specs.Types.{refused_type, wrong_length}
@@ -14,8 +14,7 @@ use Rattle.packet.specs.Kinds.{is_move, is_reply, is_check}
 use Rattle.packet.specs.Readings.{opaque_of, kind_of, reading_of}
 use Rattle.slot.specs.Found.{status_in}
 use Rattle.slot.specs.Clashes.{clash}
-use Rattle.slots.specs.Rules.{clashing}
-use Rattle.path.specs.Choices.{lowest, path_of}
+use Rattle.path.specs.Choices.{path_of}
 use Rattle.credit.specs.Clock.{aged_by}
 use Rattle.association.specs.Form.{refusal0}
 use Rattle.association.specs.Start.{start_of}
@@ -23,8 +22,8 @@ use Rattle.payload.specs.Calls.{arrival_of, send_of}
 use Rattle.resend.specs.Resends.{resent_bytes}
 use Rattle.clock.specs.Ticks as ticks
 use Rattle.readdress.specs.Echoes.{verify_all}
-use Rattle.readdress.specs.Steps.{rebind, entry_for, renew_all, retire_all, place_all, marked_slot}
-use Rattle.readdress.specs.Checks.{check_count, checked, check_for, twice}
+use Rattle.readdress.specs.Steps.{rebind, renew_all, retire_all}
+use Rattle.readdress.specs.Checks.{check_count, checked, check_for}
 use Rattle.readdress.specs.Moves.{settled, placed}
 use Rattle.reply_form.specs.Replies.{checks_bytes, move_bytes, response_bytes}
 use Rattle.update.specs.Messages.{after_move, handle_reply, handle_move, handle_check, handled}
@@ -38,10 +37,10 @@ use Rattle.history.specs.Issued.{next_id, last_tick}
 -- to unfold this is to unfold whatever its own line names; its value means nothing
 unfoldable pub calls : ℕ
 unfolding
-    records some bytes_of legal refused_type wrong_length parameter_bytes falls occurs ill_form sets.twice sets.marks is_move is_reply is_check opaque_of kind_of reading_of
-    status_in clash clashing lowest path_of aged_by refusal0 start_of arrival_of send_of resent_bytes ticks.handled verify_all rebind entry_for renew_all retire_all place_all
-    marked_slot check_count checked check_for twice settled placed checks_bytes move_bytes response_bytes after_move handle_reply handle_move handle_check handled
-    entry_bytes set_body announcement_bytes announcements.after_announcement announcements.handled
+    records bytes_of legal refused_type wrong_length parameter_bytes falls occurs ill_form sets.twice sets.marks is_move is_reply is_check opaque_of kind_of reading_of
+    status_in clash path_of aged_by refusal0 start_of arrival_of send_of resent_bytes ticks.handled verify_all rebind renew_all retire_all check_count checked check_for
+    settled placed checks_bytes move_bytes response_bytes after_move handle_reply handle_move handle_check handled entry_bytes set_body announcement_bytes
+    announcements.after_announcement announcements.handled
 calls = 0
 
 -- the same, for sequences of calls

@@ -1,11 +1,11 @@
 -- The words of order 4 about checks, over the history of calls: "A check is known by its Update ID."
-use Rattle.std.specs.Prelude.{ℕ, ◌+◌, ◌≤◌, ◌<◌, Bool, false, not, cond, ◌&&◌, List, [], ◌∷◌, eqb, take}
-use Rattle.std.proofs.Math.Option.{Option, none, some}
-use Rattle.octets.specs.Records as records
-use Rattle.locator.specs.declared.ListedLocator.{ListedLocator}
+use Rattle.std.specs.Prelude.{ℕ, ◌+◌, ◌≤◌, ◌<◌, Bool, false, not, cond, ◌&&◌, List, [], ◌∷◌, eqb, Err, None, Ok, Option, Result, Some}
+use Rattle.std.specs.List.{list_any}
+use Rattle.refusal.specs.declared.Refusal.{Refusal}
 use Rattle.packet.specs.declared.Message.{Message}
-use Rattle.packet.specs.declared.Message.TheVariants.{Refused, Move, Reply, PeerCheck}
+use Rattle.packet.specs.declared.Message.TheVariants.{Move, Reply, PeerCheck}
 use Rattle.packet.specs.Readings.{reading_of}
+use Rattle.locator_set.specs.Sets.{listed_in}
 use Rattle.slot.specs.declared.Status.{Status}
 use Rattle.slot.specs.declared.Status.TheVariants.{Unverified, Active, Deprecated}
 use Rattle.slot.specs.Found.{held_as}
@@ -15,16 +15,16 @@ use Rattle.history.specs.Calls.{Call, message, arrival, send, tick, announce, An
 
 -- ---- own Update IDs
 -- the checks that what was read of a packet brings
-abbrev pub checks_by : (found : Association) → Message → (listed : List ListedLocator) → ℕ
-checks_by found (Refused r) listed = 0
-checks_by found (Move m) listed = checks_of found m (take m.count listed)
-checks_by found (Reply e) listed = 0
-checks_by found (PeerCheck c) listed = 0
+abbrev pub checks_by : (found : Association) → Result Message Refusal → ℕ
+checks_by found (Err r) = 0
+checks_by found (Ok (Move m set)) = checks_of found m (listed_in set)
+checks_by found (Ok (Reply e)) = 0
+checks_by found (Ok (PeerCheck c)) = 0
 
 -- the checks that a call issues: those of an accepted Move; a repeat issues none
 abbrev pub checks_in : (found : Association) → Call → Answered → ℕ
 checks_in found (message packet authentic nonces eight buffer) r =
-    cond (is_accepted r && not (is_repeat r)) (checks_by found (reading_of packet).message (reading_of packet).listed) 0
+    cond (is_accepted r && not (is_repeat r)) (checks_by found (reading_of packet)) 0
 checks_in found (arrival size) r = 0
 checks_in found (send size) r = 0
 checks_in found (tick time buffer) r = 0
@@ -58,16 +58,16 @@ Issues id next s = (next ≤ id) × (id < next + checks_in s.found s.call s.answ
 -- ---- the time
 -- the time of an accepted tick; none where the call is no tick, or refused
 abbrev pub ticked_at : Call → Answered → Option ℕ
-ticked_at (message packet authentic nonces eight buffer) r = none
-ticked_at (arrival size) r = none
-ticked_at (send size) r = none
-ticked_at (tick time buffer) r = cond (is_accepted r) (some time) none
-ticked_at (announce list count inbound keymat buffer) r = none
+ticked_at (message packet authentic nonces eight buffer) r = None
+ticked_at (arrival size) r = None
+ticked_at (send size) r = None
+ticked_at (tick time buffer) r = cond (is_accepted r) (Some time) None
+ticked_at (announce list count inbound keymat buffer) r = None
 
 -- that time, or else the one before
 abbrev pub time_or : (before : ℕ) → Option ℕ → ℕ
-time_or before none = before
-time_or before (some time) = time
+time_or before None = before
+time_or before (Some time) = time
 
 -- "the time of the last accepted tick of the sequence", or else this one, "the stored time with which the sequence begins"
 unfoldable pub last_tick : (begun : ℕ) → List Step → ℕ
@@ -83,4 +83,4 @@ is_check id Deprecated = false
 
 -- a check with this Update ID is outstanding: some slot is UNVERIFIED with it
 abbrev pub is_outstanding : (id : ℕ) → Association → Bool
-is_outstanding id a = records.some (held_as (is_check id)) a.slots
+is_outstanding id a = list_any (held_as (is_check id)) a.slots

@@ -1,13 +1,14 @@
 -- The words of demand 3 about one address, over the history of calls.
-use Rattle.std.specs.Prelude.{ℕ, Bool, false, not, cond, ◌&&◌, ◌||◌, List, [], ◌∷◌, take}
-use Rattle.std.proofs.Math.Option.{Option, none, some}
+use Rattle.std.specs.Prelude.{ℕ, Bool, false, not, cond, ◌&&◌, ◌||◌, List, [], ◌∷◌, Err, None, Ok, Option, Result, Some}
+use Rattle.refusal.specs.declared.Refusal.{Refusal}
 use Rattle.address.specs.declared.Address.{Address}
 use Rattle.locator.specs.declared.ListedLocator.{ListedLocator}
 use Rattle.packet.specs.declared.EchoResponse.{EchoResponse}
 use Rattle.packet.specs.declared.EchoResponse.TheVariants.{Absent, Nonce, OtherLength}
 use Rattle.packet.specs.declared.Message.{Message}
-use Rattle.packet.specs.declared.Message.TheVariants.{Refused, Move, Reply, PeerCheck}
+use Rattle.packet.specs.declared.Message.TheVariants.{Move, Reply, PeerCheck}
 use Rattle.packet.specs.Readings.{reading_of}
+use Rattle.locator_set.specs.Sets.{listed_in}
 use Rattle.slot.specs.declared.Status.{Status}
 use Rattle.slot.specs.declared.Status.TheVariants.{Unverified, Active, Deprecated}
 use Rattle.slot.specs.Found.{or_else, status_in}
@@ -36,51 +37,51 @@ is_authentic (announce list count inbound keymat buffer) = false
 -- ---- what a message echoes
 -- the nonce of an echo response of 8 bytes
 abbrev pub nonce_of : EchoResponse → Option ℕ
-nonce_of Absent = none
-nonce_of (Nonce n) = some n
-nonce_of OtherLength = none
+nonce_of Absent = None
+nonce_of (Nonce n) = Some n
+nonce_of OtherLength = None
 
 -- the nonce that what was read of a packet echoes
-abbrev pub echo_in : Message → Option ℕ
-echo_in (Refused r) = none
-echo_in (Move m) = nonce_of m.echo
-echo_in (Reply e) = nonce_of e
-echo_in (PeerCheck c) = none
+abbrev pub echo_in : Result Message Refusal → Option ℕ
+echo_in (Err r) = None
+echo_in (Ok (Move m set)) = nonce_of m.echo
+echo_in (Ok (Reply e)) = nonce_of e
+echo_in (Ok (PeerCheck c)) = None
 
 -- the nonce that the call echoes, by the packet's bytes
 abbrev pub echoed : Call → Option ℕ
-echoed (message packet authentic nonces eight buffer) = echo_in (reading_of packet).message
-echoed (arrival size) = none
-echoed (send size) = none
-echoed (tick time buffer) = none
-echoed (announce list count inbound keymat buffer) = none
+echoed (message packet authentic nonces eight buffer) = echo_in (reading_of packet)
+echoed (arrival size) = None
+echoed (send size) = None
+echoed (tick time buffer) = None
+echoed (announce list count inbound keymat buffer) = None
 
 -- ---- what a Move lists and retires
 -- the locators of the set, where a Move was read
-abbrev pub set_in : Message → (listed : List ListedLocator) → List ListedLocator
-set_in (Refused r) listed = []
-set_in (Move m) listed = take m.count listed
-set_in (Reply e) listed = []
-set_in (PeerCheck c) listed = []
+abbrev pub set_in : Result Message Refusal → List ListedLocator
+set_in (Err r) = []
+set_in (Ok (Move m set)) = listed_in set
+set_in (Ok (Reply e)) = []
+set_in (Ok (PeerCheck c)) = []
 
 -- the call is a message that reads as a Move whose set lists the address, whatever its answer
 abbrev pub lists : Address → Call → Bool
-lists x (message packet authentic nonces eight buffer) = is_listed x (set_in (reading_of packet).message (reading_of packet).listed)
+lists x (message packet authentic nonces eight buffer) = is_listed x (set_in (reading_of packet))
 lists x (arrival size) = false
 lists x (send size) = false
 lists x (tick time buffer) = false
 lists x (announce list count inbound keymat buffer) = false
 
 -- "A Move retires an address if NEW SPI is not the outbound SPI it finds, or its set lacks the address. A Reply retires none."
-abbrev pub retired_by : Address → (found : Association) → Message → (listed : List ListedLocator) → Bool
-retired_by x found (Refused r) listed = false
-retired_by x found (Move m) listed = differs found m || not (is_listed x (take m.count listed))
-retired_by x found (Reply e) listed = false
-retired_by x found (PeerCheck c) listed = false
+abbrev pub retired_by : Address → (found : Association) → Result Message Refusal → Bool
+retired_by x found (Err r) = false
+retired_by x found (Ok (Move m set)) = differs found m || not (is_listed x (listed_in set))
+retired_by x found (Ok (Reply e)) = false
+retired_by x found (Ok (PeerCheck c)) = false
 
 -- the same, of a call, whatever its answer: no call but a message is a Move
 abbrev pub retires : Address → (found : Association) → Call → Bool
-retires x found (message packet authentic nonces eight buffer) = retired_by x found (reading_of packet).message (reading_of packet).listed
+retires x found (message packet authentic nonces eight buffer) = retired_by x found (reading_of packet)
 retires x found (arrival size) = false
 retires x found (send size) = false
 retires x found (tick time buffer) = false
@@ -88,28 +89,27 @@ retires x found (announce list count inbound keymat buffer) = false
 
 -- ---- the nonce outstanding
 -- "the one taken for it": by what was read of a packet
-abbrev pub taken_by : Address → (found : Association) → Message → (listed : List ListedLocator) → (nonces : List ℕ) → Option ℕ
-taken_by x found (Refused r) listed nonces = none
-taken_by x found (Move m) listed nonces =
-    nonce_taken x (take m.count listed) nonces (placement found m (take m.count listed)).slots
-taken_by x found (Reply e) listed nonces = none
-taken_by x found (PeerCheck c) listed nonces = none
+abbrev pub taken_by : Address → (found : Association) → Result Message Refusal → (nonces : List ℕ) → Option ℕ
+taken_by x found (Err r) nonces = None
+taken_by x found (Ok (Move m set)) nonces = nonce_taken x (listed_in set) nonces (placement found m (listed_in set)).slots
+taken_by x found (Ok (Reply e)) nonces = None
+taken_by x found (Ok (PeerCheck c)) nonces = None
 
 -- "by the .. accepted Move that gave it a check": a repeat gives none
 abbrev pub taken : Address → (found : Association) → Call → Answered → Option ℕ
 taken x found (message packet authentic nonces eight buffer) r =
-    cond (is_accepted r && not (is_repeat r)) (taken_by x found (reading_of packet).message (reading_of packet).listed nonces) none
-taken x found (arrival size) r = none
-taken x found (send size) r = none
-taken x found (tick time buffer) r = none
-taken x found (announce list count inbound keymat buffer) r = none
+    cond (is_accepted r && not (is_repeat r)) (taken_by x found (reading_of packet) nonces) None
+taken x found (arrival size) r = None
+taken x found (send size) r = None
+taken x found (tick time buffer) r = None
+taken x found (announce list count inbound keymat buffer) r = None
 
 -- "while that Move and every call since left it UNVERIFIED"
 abbrev pub while_unverified : (left : Option Status) → Option ℕ → Option ℕ
-while_unverified none o = none
-while_unverified (some (Unverified k)) o = o
-while_unverified (some Active) o = none
-while_unverified (some Deprecated) o = none
+while_unverified None o = None
+while_unverified (Some (Unverified k)) o = o
+while_unverified (Some Active) o = None
+while_unverified (Some Deprecated) o = None
 
 -- the nonce outstanding after a history, where this one was before it
 unfoldable pub outstanding_from : Address → (before : Option ℕ) → List Step → Option ℕ
@@ -120,4 +120,4 @@ outstanding_from x before (s ∷ ss) =
 -- "Nonce outstanding for an address: the one taken for it by the last accepted Move that gave it a check, while that Move and every call since left it
 -- UNVERIFIED." At the beginning there is none
 abbrev pub outstanding : Address → List Step → Option ℕ
-outstanding x h = outstanding_from x none h
+outstanding x h = outstanding_from x None h

@@ -4,14 +4,12 @@
 
 use address::Address;
 use announcement::OwnLocator;
-use association::{Answer, Association, Outcome};
+use association::{Answer, Association};
 use judge::REPLY_ROOM;
 use locator_set::SET_LIMIT;
-use payload::SendOutcome;
 use refusal::Refusal;
 use resend::TICK_ROOM;
 use std::io;
-use update::MessageOutcome;
 use writer::{put_u32, put_u64};
 
 // The bytes of an UPDATE that announces one address.
@@ -51,8 +49,8 @@ fn say_refused(rt: &impl Print, why: Refusal) -> io::Result<()> {
 // What a start and an arrival answer. The host keeps the association for the next call.
 fn kept(rt: &impl Print, answer: Answer) -> io::Result<Association> {
     match answer.outcome {
-        Outcome::Accepted => println!(rt; "accepted")?,
-        Outcome::Refused(why) => say_refused(rt, why)?,
+        Ok(()) => println!(rt; "accepted")?,
+        Err(why) => say_refused(rt, why)?,
     }
     Ok(answer.association)
 }
@@ -68,13 +66,8 @@ fn handle_update(
     let mut reply = [0u8; REPLY_ROOM];
     let answer = message::receive(a, packet, authentic, nonces, &mut reply);
     match answer.outcome {
-        MessageOutcome::Declined(why) => say_refused(rt, why)?,
-        MessageOutcome::Moved
-        | MessageOutcome::Replied
-        | MessageOutcome::Responded
-        | MessageOutcome::Repeated => {
-            println!(rt; "bytes of the reply to send back: {}", answer.written)?;
-        }
+        Ok(_) => println!(rt; "bytes of the reply to send back: {}", answer.written)?,
+        Err(why) => say_refused(rt, why)?,
     }
     Ok(answer.association)
 }
@@ -82,12 +75,11 @@ fn handle_update(
 // Our own addresses, when they change: a list of which the first entries count, the new inbound SPI, a KEYMAT Index, and a buffer for the parameters of the
 // UPDATE to send. 256 bytes hold every announcement.
 fn announce(rt: &impl Print, a: Association) -> io::Result<Association> {
-    let address = Address {
-        high: 0x2001_0db8_0000_0000,
-        low: 9,
-    };
     let entry = OwnLocator {
-        address,
+        address: Address {
+            high: 0x2001_0db8_0000_0000,
+            low: 9,
+        },
         lifetime: 60,
         kind: 0,
         traffic: 0,
@@ -97,8 +89,8 @@ fn announce(rt: &impl Print, a: Association) -> io::Result<Association> {
     let mut parameters = [0u8; 256];
     let answer = announce::announce(a, list, 1, 0x1002, 0, &mut parameters);
     match answer.outcome {
-        Outcome::Accepted => println!(rt; "bytes of parameters to send: {}", answer.written)?,
-        Outcome::Refused(why) => say_refused(rt, why)?,
+        Ok(()) => println!(rt; "bytes of parameters to send: {}", answer.written)?,
+        Err(why) => say_refused(rt, why)?,
     }
     Ok(answer.association)
 }
@@ -108,8 +100,8 @@ fn tick(rt: &impl Print, a: Association, time: u64) -> io::Result<Association> {
     let mut checks = [0u8; TICK_ROOM];
     let answer = clock::tick(a, time, &mut checks);
     match answer.outcome {
-        Outcome::Accepted => println!(rt; "bytes of checks to send again: {}", answer.written)?,
-        Outcome::Refused(why) => say_refused(rt, why)?,
+        Ok(()) => println!(rt; "bytes of checks to send again: {}", answer.written)?,
+        Err(why) => say_refused(rt, why)?,
     }
     Ok(answer.association)
 }
@@ -118,8 +110,8 @@ fn tick(rt: &impl Print, a: Association, time: u64) -> io::Result<Association> {
 fn send(rt: &impl Print, a: Association, size: u64) -> io::Result<Association> {
     let answer = payload::send(a, size);
     match answer.outcome {
-        SendOutcome::Granted(slot) => println!(rt; "send to the address in slot {slot}")?,
-        SendOutcome::Denied(why) => say_refused(rt, why)?,
+        Ok(slot) => println!(rt; "send to the address in slot {slot}")?,
+        Err(why) => say_refused(rt, why)?,
     }
     Ok(answer.association)
 }
@@ -129,14 +121,14 @@ fn main(rt: HostRuntime) -> io::Result<()> {
         high: 0x2001_0db8_0000_0000,
         low: 1,
     };
-    let mut a = kept(&rt, association::start(100, 0x2001, 0x1001, peer, 60))?;
-    a = kept(&rt, payload::arrival(a, 1500))?;
+    let a = kept(&rt, association::start(100, 0x2001, 0x1001, peer, 60))?;
+    let a = kept(&rt, payload::arrival(a, 1500))?;
     let mut packet = [0u8; UPDATE_SIZE];
     put_update(&mut packet);
-    a = handle_update(&rt, a, &packet, true)?;
-    a = send(&rt, a, 1000)?;
-    a = send(&rt, a, 1000)?;
-    a = tick(&rt, a, 105)?;
+    let a = handle_update(&rt, a, &packet, true)?;
+    let a = send(&rt, a, 1000)?;
+    let a = send(&rt, a, 1000)?;
+    let a = tick(&rt, a, 105)?;
     announce(&rt, a)?;
     Ok(())
 }

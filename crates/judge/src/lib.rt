@@ -1,13 +1,11 @@
-// The refusals of a message that are tests on numbers: 1, 2, 7, 9 and 11, and what is Repeated. Depends on update, listed, association, locator,
-// locator_set and boolean.
+// The refusals of a message that are tests on numbers: 1, 2, 7, 9 and 11, and what is Repeated. Depends on update, listed, association and locator.
 #![tactic(auto)]
 
-ghost use Rattle.std.specs.Prelude.{◌≡◌, take};
+ghost use Rattle.std.specs.Prelude.{◌≡◌};
 ghost use Rattle.update.specs.Refusals.{refusal1, refusal2, refusal7, repeats, refusal9, refusal11};
 
-use association::{ID_LIMIT, PeerId};
+use association::ID_LIMIT;
 use locator::ListedLocator;
-use locator_set::SET_LIMIT;
 
 // What the reply of eight checks takes.
 pub const REPLY_ROOM: usize = 384;
@@ -27,50 +25,29 @@ pub fn is_not_authentic(authentic: bool) -> bool
 }
 
 // Refusal 7: the Update ID is below the highest seen.
-pub fn is_stale(id: u32, peer: PeerId) -> bool
+pub fn is_stale(id: u32, peer: Option<u32>) -> bool
     ensures { result ≡ refusal7 id peer }
 {
-    match peer {
-        PeerId::NoneSeen => false,
-        PeerId::Highest(h) => id < h,
-    }
+    peer.is_some_and(|highest| id < highest)
 }
 
 // The Update ID is the highest seen: the message is Repeated.
-pub fn is_repeat(id: u32, peer: PeerId) -> bool
+pub fn is_repeat(id: u32, peer: Option<u32>) -> bool
     ensures { result ≡ repeats id peer }
 {
-    match peer {
-        PeerId::NoneSeen => false,
-        PeerId::Highest(h) => id == h,
-    }
+    peer.is_some_and(|highest| id == highest)
 }
 
 // Refusal 9: OLD SPI is not the outbound SPI, NEW SPI is 0, or a type 1 locator has another SPI than NEW SPI.
-pub fn is_wrong_spi(
-    outbound: u32,
-    old: u32,
-    new: u32,
-    listed: [ListedLocator; SET_LIMIT],
-    count: usize,
-) -> bool
-    ensures { result ≡ refusal9 outbound old new (take count listed) }
+pub fn is_wrong_spi(outbound: u32, old: u32, new: u32, listed: &[ListedLocator]) -> bool
+    ensures { result ≡ refusal9 outbound old new listed.now }
 {
-    boolean::either(
-        old != outbound,
-        boolean::either(
-            association::is_unusable_spi(new),
-            listed::has_other_spi(listed, count, new),
-        ),
-    )
+    old != outbound || association::is_unusable_spi(new) || listed::has_other_spi(listed, new)
 }
 
 // Refusal 11: the next own Update ID and the new checks come to more than 2^32.
 pub fn is_used_up(next: u64, checks: usize) -> bool
     ensures { result ≡ refusal11 next checks }
 {
-    if ID_LIMIT < next {
-        return true;
-    }
-    ID_LIMIT - next < checks as u64
+    ID_LIMIT < next || ID_LIMIT - next < checks as u64
 }

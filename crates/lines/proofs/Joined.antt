@@ -11,12 +11,6 @@ use Rattle.text.specs.Texts.{end_of}
 use Rattle.text.proofs.Puts.{end_within}
 use Rattle.lines.specs.Laid.{laid_out, laid_end, Laid}
 
--- one text, as `text` promises it
-pub one : (text : List ℕ) (at : ℕ) (before after : List ℕ) (next : ℕ) → (after ≡ written_at at text before) × (next ≡ end_of at text before)
-    → Laid (text ∷ []) at before after next
-unfolding laid_out laid_end
-one text at before after next h = record { buffer = h.0; place = h.1 }
-
 -- no text
 pub none : (at : ℕ) (buffer : List ℕ) → Laid [] at buffer buffer at
 unfolding laid_out laid_end

@@ -1,17 +1,11 @@
 -- The lines of an association's state.
-use Rattle.std.specs.Prelude.{ℕ, suc, List, [], ◌∷◌, ◌++◌}
+use Rattle.std.specs.Prelude.{ℕ, suc, List, [], ◌∷◌, ◌++◌, None, Option, Some}
 use Rattle.address.specs.declared.Address.{Address}
 use Rattle.slot.specs.declared.Check.{Check}
 use Rattle.slot.specs.declared.Status.{Status}
 use Rattle.slot.specs.declared.Status.TheVariants.{Unverified, Active, Deprecated}
 use Rattle.slot.specs.declared.Locator.{Locator}
-use Rattle.slot.specs.declared.Holding.{Holding}
-use Rattle.slot.specs.declared.Holding.TheVariants.{Empty, Held}
 use Rattle.slot.specs.declared.Slot.{Slot}
-use Rattle.path.specs.declared.Preference.{Preference}
-use Rattle.path.specs.declared.Preference.TheVariants.{NoPreference, Prefers}
-use Rattle.association.specs.declared.PeerId.{PeerId}
-use Rattle.association.specs.declared.PeerId.TheVariants.{NoneSeen, Highest}
 use Rattle.association.specs.declared.Association.{Association}
 use Rattle.lines.specs.Words.{word, field, hex_number}
 
@@ -36,9 +30,9 @@ locator_text n l =
     ++ (word " " ++ (address_text l.address ++ (field " traffic " l.traffic ++ (field " expiry " l.expiry ++ status_text l.status))))
 
 -- an empty slot has no line
-abbrev pub holding_text : ℕ → Holding → List (List ℕ)
-holding_text n Empty = []
-holding_text n (Held l) = locator_text n l
+abbrev pub holding_text : ℕ → Option Locator → List (List ℕ)
+holding_text n None = []
+holding_text n (Some l) = locator_text n l
 
 -- the line of slot n
 unfoldable pub slot_text : ℕ → Slot → List (List ℕ)
@@ -50,14 +44,14 @@ slots_text n [] = []
 slots_text n (slot ∷ slots) = slot_text n slot ++ slots_text (suc n) slots
 
 -- the highest Update ID of the peer, or that none was seen
-unfoldable pub peer_text : PeerId → List (List ℕ)
-peer_text NoneSeen = word " peer -"
-peer_text (Highest id) = field " peer " id
+unfoldable pub peer_text : Option ℕ → List (List ℕ)
+peer_text None = word " peer -"
+peer_text (Some id) = field " peer " id
 
 -- the preferred slot, or that there is none
-unfoldable pub preference_text : Preference → List (List ℕ)
-preference_text NoPreference = word " preferred -"
-preference_text (Prefers n) = field " preferred " n
+unfoldable pub preference_text : Option ℕ → List (List ℕ)
+preference_text None = word " preferred -"
+preference_text (Some n) = field " preferred " n
 
 -- the SPIs, the clock and the credit
 unfoldable pub numbers_text : Association → List (List ℕ)

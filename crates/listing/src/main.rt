@@ -1,10 +1,11 @@
-// Lists the parameters of packets by `reader::next_parameter`, as any caller may that keeps no reader: a line for each parameter with its type,
-// its length L and where its L bytes start, and a line for how the reader ended. Then, as a log would have it, a line for each of some packets and nonces
-// with the part of the packet that `echo::echo_part` hands back. The file `stdout` was written from document 01, and the check compares the two.
+// Lists the parameters of packets by a `reader::ParameterReader`: a line for each parameter with its type, its length L and where its L bytes start,
+// and a line for how the reader ended. Then, as a log would have it, a line for each of some packets and nonces with the part of the packet that
+// `echo::echo_part` hands back. The file `stdout` was written from document 01, and the check compares the two.
 // Depends on reader, echo and the crates of their types, and on writer to build packets.
 #![tactic(auto)]
 
-use parameter::{NONCE_SIZE, Parameter, Step};
+use parameter::{NONCE_SIZE, Parameter};
+use reader::ParameterReader;
 use refusal::Refusal;
 use std::io;
 use writer::{put_u32, put_u64};
@@ -48,28 +49,24 @@ fn print_refusal(rt: &impl Print, why: Refusal) -> io::Result<()> {
 }
 
 // Steps through a packet, from a new reader's place to the end or to what is refused.
+#[tactic(auto, using(reader::proofs::Places::less_left))]
 fn list(rt: &impl Print, packet: &[u8]) -> io::Result<()> {
-    let mut cursor = reader::start_cursor();
+    let mut reader = ParameterReader::new(packet);
     loop {
-        let advanced = reader::next_parameter(packet, cursor);
-        let step = advanced.step;
-        match step {
-            Step::Found(p) => {
-                print_parameter(rt, p)?;
-                cursor = advanced.cursor;
-            }
-            Step::End => return println!(rt; "end"),
-            Step::Refused(why) => return print_refusal(rt, why),
+        match reader.step() {
+            Ok(Some(p)) => print_parameter(rt, p)?,
+            Ok(None) => return println!(rt; "end"),
+            Err(why) => return print_refusal(rt, why),
         }
     }
 }
 
 // Lists the first so many bytes of a packet.
 fn list_first(rt: &impl Print, packet: &[u8], size: usize) -> io::Result<()> {
-    if size <= packet.len() {
-        list(rt, &packet[0..size])?;
+    match packet.get(..size) {
+        Some(first) => list(rt, first),
+        None => Ok(()),
     }
-    Ok(())
 }
 
 // Lists so many bytes of a packet whose parameters begin so, 8 bytes apart. Its header and the parameters' other bytes are 0.

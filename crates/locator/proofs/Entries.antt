@@ -12,7 +12,7 @@ use Rattle.refusal.specs.Table.{refusal}
 use Rattle.boolean.proofs.Laws.{or_false_left, or_false_right}
 use Rattle.address.specs.Rules.{legal}
 use Rattle.locator.specs.declared.ListedLocator.{ListedLocator}
-use Rattle.locator.specs.declared.LocatorStep.TheVariants.{Listed, Refused}
+use Rattle.std.specs.Prelude.{Result, Ok, Err}
 use Rattle.locator.specs.Locators.{head_size, unit, traffic_at, kind_at, units_at, lifetime_at, listed_address, next_locator, ill_form, illegal_at, locator_step_at}
 
 module _ (s : List ℕ) (at : ℕ) where
@@ -26,7 +26,7 @@ module _ (s : List ℕ) (at : ℕ) where
       go true e = rw (lt-ltb (length s) (next_locator s at) (omega (arith, eqb-true (units_at s at) (4 + kind_at s at) e)))
       go false e = simp or-true
 
-  pub step_short : length s - at < 24 → Refused (refusal 6) ≡ locator_step_at s at
+  pub step_short : length s - at < 24 → Err (refusal 6) ≡ locator_step_at s at
   step_short h = rw (short_ill h)
 
   -- a locator that is not illegal lies within the set
@@ -48,10 +48,11 @@ module _ (s : List ℕ) (at : ℕ) where
       omega (arith, eqb-true (units_at s at) (4 + kind_at s at) (not-false _ long))
 
 -- what a step's answer says of its test
-pub is_listed_lem : (b : Bool) (p l : ListedLocator) (m n : ℕ) → Listed l n ≡ cond b (Refused (refusal 6)) (Listed p m) → (b ≡ false) × ((l ≡ p) × (n ≡ m))
-is_listed_lem true p l m n h = (cc, (cc, cc))
-is_listed_lem false p l m n h = (refl, (cc, cc))
+module _ (p : ListedLocator) (m : ℕ) (step : Result (ListedLocator × ℕ) Refusal) where
+  pub is_listed_lem : (b : Bool) {found : ListedLocator × ℕ} → step ≡ cond b (Err (refusal 6)) (Ok (p, m)) → step ≡ Ok found → (b ≡ false) × (found ≡ (p, m))
+  is_listed_lem true g e = (cc, cc)
+  is_listed_lem false g e = (refl, cc)
 
-pub is_refused : (b : Bool) (p : ListedLocator) (m : ℕ) {r : Refusal} → Refused r ≡ cond b (Refused (refusal 6)) (Listed p m) → b ≡ true
-is_refused true p m h = refl
-is_refused false p m h = cc
+  pub is_refused : (b : Bool) {why : Refusal} → step ≡ cond b (Err (refusal 6)) (Ok (p, m)) → step ≡ Err why → (b ≡ true) × (why ≡ refusal 6)
+  is_refused true g e = (refl, cc)
+  is_refused false g e = (cc, cc)

@@ -1,12 +1,11 @@
 -- Worked examples, computed from the definitions: locators in hex, as RFC 8046 lays them out, and each condition that a locator by itself breaks.
-use Rattle.std.specs.Prelude.{ℕ, ◌≡◌, refl, true, false, List, [], ◌∷◌, ◌++◌, map, replicate}
+use Rattle.std.specs.Prelude.{ℕ, ◌≡◌, refl, true, false, List, [], ◌∷◌, ◌++◌, Ok, Err, map, replicate}
 use Prim.Native.String.{String}
 use Rattle.refusal.specs.Table.{refusal}
 use Rattle.octets.specs.ExamplesHex.{hex}
 use Rattle.octets.specs.Records.{records}
 use Rattle.address.specs.Rules.{legal}
 use Rattle.locator.specs.declared.ListedLocator.{ListedLocator}
-use Rattle.locator.specs.declared.LocatorStep.TheVariants.{Listed, Refused}
 use Rattle.locator.specs.Locators.{traffic_at, kind_at, units_at, preferred_at, places, ill_form, illegal_at, locator_step_at}
 
 -- a set of two. Type 0: both kinds of traffic, length 4, P, 60 seconds, 2001:db8::1. Type 1: signalling, length 5, every reserved bit and not P, 300
@@ -37,13 +36,13 @@ second = record {
 }
 
 -- where they start, what each says, and where the next would start
-read : (places two ≡ 0 ∷ 24 ∷ []) × (map (locator_step_at two) (0 ∷ 24 ∷ []) ≡ Listed first 24 ∷ Listed second 52 ∷ [])
+read : (places two ≡ 0 ∷ 24 ∷ []) × (map (locator_step_at two) (0 ∷ 24 ∷ []) ≡ Ok (first, 24) ∷ Ok (second, 52) ∷ [])
 unfolding records ill_form legal
 read = (refl, refl)
 
 -- a place past the end, and a set without bytes; a byte that is not there counts 0
 none : (places [] ≡ [])
-    × (locator_step_at two 52 ≡ Refused (refusal 6))
+    × (locator_step_at two 52 ≡ Err (refusal 6))
     × (traffic_at [] 0 ∷ kind_at [] 0 ∷ units_at [] 0 ∷ [] ≡ 0 ∷ 0 ∷ 0 ∷ [])
     × (preferred_at [] 0 ≡ false)
 unfolding records ill_form legal

@@ -1,14 +1,13 @@
 -- "A locator (000, section 4): traffic type (0 both, 1 signalling, 2 data), locator type, length in 4-byte units, 7 reserved bits and P,
 -- lifetime 32 bits, then the locator." Here s is the bytes of a LOCATOR_SET, and `at` is a place in it where a locator starts.
-use Rattle.std.specs.Prelude.{ℕ, ◌+◌, ◌*◌, ◌%◌, Bool, not, cond, ◌||◌, List, ltb, eqb, length, get_or}
+use Rattle.std.specs.Prelude.{ℕ, ◌+◌, ◌*◌, ◌%◌, Bool, not, cond, ◌||◌, List, Result, Ok, Err, ltb, eqb, length, get_or}
+use Rattle.refusal.specs.declared.Refusal.{Refusal}
 use Rattle.refusal.specs.Table.{refusal}
 use Rattle.octets.specs.Numbers.{number_at}
 use Rattle.octets.specs.Records.{records}
 use Rattle.address.specs.Rules.{address_at, legal}
 use Rattle.address.specs.declared.Address.{Address}
 use Rattle.locator.specs.declared.ListedLocator.{ListedLocator}
-use Rattle.locator.specs.declared.LocatorStep.{LocatorStep}
-use Rattle.locator.specs.declared.LocatorStep.TheVariants.{Listed, Refused}
 
 -- the bytes of a locator before its SPI or address
 abbrev pub head_size : ℕ
@@ -80,6 +79,6 @@ listed_at s at = record {
   preferred = preferred_at s at;
 }
 
--- one step of the walk over a set
-abbrev pub locator_step_at : List ℕ → ℕ → LocatorStep
-locator_step_at s at = cond (illegal_at s at) (Refused (refusal 6)) (Listed (listed_at s at) (next_locator s at))
+-- one step of the walk over a set: the locator and where the next one starts, or refusal 6
+abbrev pub locator_step_at : List ℕ → ℕ → Result (ListedLocator × ℕ) Refusal
+locator_step_at s at = cond (illegal_at s at) (Err (refusal 6)) (Ok (listed_at s at, next_locator s at))

@@ -1,4 +1,4 @@
-// A locator of a LOCATOR_SET, and what refusal 6 refuses of it. Depends on address, octets, boolean, refusal.
+// A locator of a LOCATOR_SET, and what refusal 6 refuses of it. Depends on address, octets, refusal.
 #![tactic(auto)]
 
 ghost use Rattle.std.specs.Prelude.{◌≡◌, ◌+◌, ◌≤◌, ◌<◌, length};
@@ -17,7 +17,8 @@ pub const LEAST_SIZE: usize = 24;
 // The locator type that has an SPI.
 pub const SPI_TYPE: u8 = 1;
 
-// A locator as a set lists it. `kind` is its locator type, and `spi` the SPI of a type 1 locator, 0 for type 0.
+// A locator as a set lists it. `kind` is its locator type, and `spi` the SPI of a type 1 locator, 0 for type 0. They stay two numbers: the definitions and the
+// laws of what is written and read back speak of both, and an Option would pad each of the eight entries of a set.
 #[derive(Clone, Copy)]
 pub struct ListedLocator {
     pub address: Address,
@@ -28,13 +29,6 @@ pub struct ListedLocator {
     pub preferred: bool,
 }
 
-// What stands at a place of a set: a locator and where the next one starts, or refusal 6.
-#[derive(Clone, Copy)]
-pub enum LocatorStep {
-    Listed(ListedLocator, usize),
-    Refused(Refusal),
-}
-
 // The locator at `at`, of which the eight bytes of the head are there, has a form that refusal 6 refuses.
 #[tactic(auto, unfolding(crate::specs::Locators::ill_form))]
 fn ill_form(s: &[u8], at: usize) -> bool
@@ -43,16 +37,11 @@ fn ill_form(s: &[u8], at: usize) -> bool
 {
     let kind = octets::byte(s[at + 1]);
     let units = octets::byte(s[at + 2]);
-    boolean::either(
-        s.len() < at + HEAD_SIZE + UNIT * units,
-        boolean::either(
-            2 < s[at],
-            boolean::either(
-                1 < kind,
-                boolean::either(units != 4 + kind, octets::u32_at(s, at + 4) == 0),
-            ),
-        ),
-    )
+    s.len() < at + HEAD_SIZE + UNIT * units
+        || 2 < s[at]
+        || 1 < kind
+        || units != 4 + kind
+        || octets::u32_at(s, at + 4) == 0
 }
 
 // The SPI of the locator at `at`: 0 for type 0, which has none.
@@ -67,24 +56,17 @@ fn spi_at(s: &[u8], at: usize) -> u32
     }
 }
 
-// One step of the walk over a set: what stands at `at`, for every place of any slice.
+// One step of the walk over a set, for every place of any slice: the locator at `at` and where the next one starts, or refusal 6.
 #[tactic(auto, using(crate::proofs::Entries::step_short))]
-pub fn locator_step(s: &[u8], at: usize) -> LocatorStep
+pub fn locator_step(s: &[u8], at: usize) -> Result<(ListedLocator, usize), Refusal>
     ensures { result ≡ locator_step_at s.now at }
 {
-    if s.len() <= at {
-        return LocatorStep::Refused(Refusal::BadLocatorSet);
+    if s.len().saturating_sub(at) < LEAST_SIZE || ill_form(s, at) {
+        return Err(Refusal::BadLocatorSet);
     }
-    if s.len() - at < LEAST_SIZE {
-        return LocatorStep::Refused(Refusal::BadLocatorSet);
-    }
-    if ill_form(s, at) {
-        return LocatorStep::Refused(Refusal::BadLocatorSet);
-    }
-    let place = at + HEAD_SIZE + UNIT * octets::byte(s[at + 1]);
-    let address = address::address_at(s, place);
+    let address = address::address_at(s, at + HEAD_SIZE + UNIT * octets::byte(s[at + 1]));
     if !address::is_legal(address) {
-        return LocatorStep::Refused(Refusal::BadLocatorSet);
+        return Err(Refusal::BadLocatorSet);
     }
     let listed = ListedLocator {
         address,
@@ -94,5 +76,5 @@ pub fn locator_step(s: &[u8], at: usize) -> LocatorStep
         kind: s[at + 1],
         preferred: s[at + 3] % 2 == 1,
     };
-    LocatorStep::Listed(listed, at + HEAD_SIZE + UNIT * octets::byte(s[at + 2]))
+    Ok((listed, at + HEAD_SIZE + UNIT * octets::byte(s[at + 2])))
 }

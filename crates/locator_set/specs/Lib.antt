@@ -1,3 +1,3 @@
 pub mod Sets
-pub mod Arrays
+pub mod Buckets
 pub mod Examples

@@ -3,13 +3,16 @@ use Prim.Native.Nat.{ℕ}
 use mathlib.Core.Path.{◌≡◌, refl, ap, ◌∙◌}
 use mathlib.Core.Bool.{Bool, true, false}
 use mathlib.Core.List.{List}
-use lib.ListN.{length, take}
+use lib.ListN.{length}
 use Rattle.refusal.specs.declared.Refusal.{Refusal}
 use Rattle.packet.specs.declared.EchoResponse.{EchoResponse}
 use Rattle.packet.specs.declared.MoveFields.{MoveFields}
 use Rattle.packet.specs.declared.CheckFields.{CheckFields}
-use Rattle.packet.specs.declared.Message.TheVariants.{Refused, Move, Reply, PeerCheck}
-use Rattle.packet.specs.declared.Reading.{Reading}
+use Rattle.packet.specs.declared.Message.TheVariants.{Move, Reply, PeerCheck}
+use Rattle.packet.specs.declared.Message.{Message}
+use Rattle.locator_set.specs.declared.LocatorSet.{LocatorSet}
+use Rattle.locator_set.specs.Sets.{listed_in}
+use Rattle.std.specs.Prelude.{Result, Ok, Err}
 use Rattle.packet.specs.Readings.{reading_of, opaque_of}
 use Rattle.reply_form.specs.Replies.{overwritten}
 use Rattle.association.specs.declared.Association.{Association}
@@ -70,34 +73,34 @@ module _ (x : Lent) where
   stops_2 p q r = rw (p, q, r)
 
   -- refusals 0, 1 and 2 are passed, and this was read
-  pub record Read (r : Reading) : Type 0 where
+  pub record Read (r : Result Message Refusal) : Type 0 where
     pub sound : refusal0 x.association ≡ false
     pub room : refusal1 (length x.buffer) ≡ false
     pub marked : refusal2 x.authentic ≡ false
     pub read : r ≡ reading_of x.packet
 
   -- then the reading decides
-  past_two : (h : Handled) (r : Reading) → Read r → h ≡ handle_reading x.association x.packet r x.nonces → h ≡ handled_of x
+  past_two : (h : Handled) (r : Result Message Refusal) → Read r → h ≡ handle_reading x.association x.packet r x.nonces → h ≡ handled_of x
   unfolding handled
   past_two h r f g = g ∙ rw (f.read, f.sound, f.room, f.marked)
 
   -- it is one of refusals 3 to 6, a Reply, a Move, or a Check
-  module _ (r : Reading) (f : Read r) where
-    pub read_refused : (why : Refusal) → r.message ≡ Refused why → declined why x.association ≡ handled_of x
+  module _ (r : Result Message Refusal) (f : Read r) where
+    pub read_refused : (why : Refusal) → r ≡ Err why → declined why x.association ≡ handled_of x
     read_refused why e = past_two (declined why x.association) r f (rw e)
 
-    pub read_reply : (echo : EchoResponse) → r.message ≡ Reply echo → handle_reply x.association echo ≡ handled_of x
+    pub read_reply : (echo : EchoResponse) → r ≡ Ok (Reply echo) → handle_reply x.association echo ≡ handled_of x
     read_reply echo e = past_two (handle_reply x.association echo) r f (rw e)
 
     -- what `handle` tries for itself is passed
-    pub read_move : (m : MoveFields) → r.message ≡ Move m →
-        guarded (length x.buffer) x.association (handle_move x.association m (take m.count r.listed) x.nonces) ≡ handled_of x
-    read_move m e =
-        let h = handle_move x.association m (take m.count r.listed) x.nonces in
+    pub read_move : (m : MoveFields) (set : LocatorSet) → r ≡ Ok (Move m set) →
+        guarded (length x.buffer) x.association (handle_move x.association m (listed_in set) x.nonces) ≡ handled_of x
+    read_move m set e =
+        let h = handle_move x.association m (listed_in set) x.nonces in
         lets_pass x.association h x.buffer (sound x.association f.sound).time f.room ∙ past_two h r f (rw e)
 
     -- what `respond` tries for itself is passed
-    pub read_check : (c : CheckFields) (opaque : List ℕ) → r.message ≡ PeerCheck c → opaque ≡ opaque_of x.packet c →
+    pub read_check : (c : CheckFields) (opaque : List ℕ) → r ≡ Ok (PeerCheck c) → opaque ≡ opaque_of x.packet c →
         roomy (length x.buffer) x.association (handle_check x.association c.id opaque) ≡ handled_of x
     read_check c opaque e g =
         let h = handle_check x.association c.id (opaque_of x.packet c) in

@@ -26,7 +26,7 @@ pub fn receive(
     ensures buffer_after { buffer.new ≡ messages.buffer_after a packet.now authentic nonces buffer.old }
 {
     // Refusal 0: no call makes such an association.
-    if association::is_bad_association(a) {
+    if association::is_bad_association(&a) {
         return answer::declined(a, Refusal::BadAssociation);
     }
     // Refusal 1: the buffer may not hold the reply.
@@ -37,17 +37,13 @@ pub fn receive(
     if judge::is_not_authentic(authentic) {
         return answer::declined(a, Refusal::NotAuthentic);
     }
-    // Refusals 3 to 6: the packet's bytes.
-    let reading = packet::read_packet(packet);
-    let message = reading.message;
-    let listed = reading.listed;
-    match message {
-        Message::Refused(why) => answer::declined(a, why),
-        Message::Reply(echo) => answer::handle_reply(a, echo),
-        Message::Move(m) => handle::handle_move(a, m, listed, nonces, buffer),
-        Message::PeerCheck(c) => {
-            let opaque = packet::opaque_part(packet, c);
-            respond::handle_check(a, c.id, opaque, buffer)
+    match packet::read_packet(packet) {
+        // Refusals 3 to 6: the packet's bytes.
+        Err(why) => answer::declined(a, why),
+        Ok(Message::Reply(echo)) => answer::handle_reply(a, echo),
+        Ok(Message::Move(m, set)) => handle::handle_move(a, m, set.listed(), &nonces, buffer),
+        Ok(Message::PeerCheck(c)) => {
+            respond::handle_check(a, c.id, packet::opaque_part(packet, c), buffer)
         }
     }
 }

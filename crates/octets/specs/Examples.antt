@@ -3,8 +3,8 @@ use Rattle.std.specs.Prelude.{ℕ, zero, suc, ◌+◌, ◌≡◌, refl, true, fa
 use Rattle.std.proofs.Common.{arith}
 use Rattle.octets.specs.ExamplesHex.{hex}
 use Rattle.octets.specs.Numbers.{big_endian, number_at}
-use Rattle.octets.specs.Halves.{weight, swapped}
-use Rattle.octets.specs.Records.{records, some}
+use Rattle.octets.specs.Records.{records}
+use Rattle.std.specs.List.{list_any}
 use Rattle.octets.specs.Written.{bytes_of, joined, Octets}
 
 -- every digit, and spaces between them
@@ -20,11 +20,6 @@ numbers = (refl, refl, refl)
 -- a field that ends with the bytes is read, and one that ends past them is 0
 fields : map (λ (at : ℕ). number_at (hex "a1b2c3d4") at 2) (0 ∷ 1 ∷ 2 ∷ 3 ∷ 4 ∷ []) ≡ 0xa1b2 ∷ 0xb2c3 ∷ 0xc3d4 ∷ 0 ∷ 0 ∷ []
 fields = refl
-
--- numbers of one byte, two, four and eight with their bytes in the other order, and what their halves weigh
-swaps : (swapped 0 0xa1 ∷ swapped 1 0xa1b2 ∷ swapped 2 0xa1b2c3d4 ∷ swapped 3 0xa1b2c3d4e5f60718 ∷ [] ≡ 0xa1 ∷ 0xb2a1 ∷ 0xd4c3b2a1 ∷ 0x1807f6e5d4c3b2a1 ∷ [])
-    × (map weight (0 ∷ 1 ∷ 2 ∷ []) ≡ 256 ∷ 65536 ∷ 4294967296 ∷ [])
-swaps = (refl, refl)
 
 -- numbers as they are written: the last so many bytes
 written : (map (λ (w : ℕ). bytes_of w 0x0a0b0c0d) (0 ∷ 1 ∷ 2 ∷ 4 ∷ 5 ∷ []) ≡ [] ∷ hex "0d" ∷ hex "0c0d" ∷ hex "0a0b0c0d" ∷ hex "000a0b0c0d" ∷ [])
@@ -46,8 +41,7 @@ unfolding records
 steps = refl
 
 -- whether 3 is among them: of none, alone, first, last, not
-among : map (some (eqb 3)) ([] ∷ (3 ∷ []) ∷ (3 ∷ 4 ∷ []) ∷ (4 ∷ 3 ∷ []) ∷ (2 ∷ 4 ∷ []) ∷ []) ≡ false ∷ true ∷ true ∷ true ∷ false ∷ []
-unfolding some
+among : map (list_any (eqb 3)) ([] ∷ (3 ∷ []) ∷ (3 ∷ 4 ∷ []) ∷ (4 ∷ 3 ∷ []) ∷ (2 ∷ 4 ∷ []) ∷ []) ≡ false ∷ true ∷ true ∷ true ∷ false ∷ []
 among = refl
 
 -- each number of s is that of a byte: 255 is, and 256 is not

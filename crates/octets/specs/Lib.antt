@@ -1,5 +1,4 @@
 pub mod Numbers
-pub mod Halves
 pub mod Records
 pub mod Written
 pub mod ExamplesHex

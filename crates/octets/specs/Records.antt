@@ -1,5 +1,5 @@
 -- A run of records that stand one after another in bytes: said once, for parameters and for locators.
-use Rattle.std.specs.Prelude.{ℕ, zero, suc, Bool, false, cond, ◌||◌, List, [], ◌∷◌, ltb}
+use Rattle.std.specs.Prelude.{ℕ, zero, suc, cond, List, [], ◌∷◌, ltb}
 
 module _ {A : Type 0} (read : ℕ → A) (next : A → ℕ) (end : ℕ) where
   -- the records from `at` up to `end`, each starting where the one before it says; the last may run past the end.
@@ -7,9 +7,3 @@ module _ {A : Type 0} (read : ℕ → A) (next : A → ℕ) (end : ℕ) where
   unfoldable pub records : (steps at : ℕ) → List A
   records zero at = []
   records (suc steps) at = let more = read at ∷ records steps (next (read at)) in cond (ltb at end) more []
-
--- some element of a list passes the test
-module _ {A : Type 0} (test : A → Bool) where
-  unfoldable pub some : List A → Bool
-  some [] = false
-  some (x ∷ xs) = test x || some xs

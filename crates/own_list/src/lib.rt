@@ -1,22 +1,20 @@
-// The list that we announce, which is the first `count` entries of an array: refusals 17 and 18 of it, and the size of its set. The entries are judged as
-// they are held, and the answers are those of the bytes that would be written. Depends on announcement, locator_set, locator, address and boolean.
+// The list that we announce: refusals 17 and 18 of it, and the size of its set. The entries are judged as they are held, and the answers are those of the
+// bytes that would be written. Depends on announcement, locator_set, locator and address.
 #![tactic(auto)]
 
-ghost use Rattle.std.specs.Prelude.{◌≡◌, Bool, [], ℕ, ◌+◌, ◌*◌, ◌≤◌, min, length, take};
-ghost use Rattle.octets.specs.Records.{some};
+ghost use Rattle.std.specs.Prelude.{◌≡◌, [], ℕ, ◌≤◌, length, take};
+ghost use Rattle.std.specs.List.{list_any};
 ghost use Rattle.address.specs.Rules.{same_address};
-ghost use Rattle.locator.specs.Locators.{head_size, unit};
 ghost use Rattle.locator_set.specs.Sets.{set_limit};
 ghost use Rattle.announcement.specs.declared.OwnLocator as entries;
-ghost use Rattle.announcement.specs.Written.{units_of, set_body};
+ghost use Rattle.announcement.specs.Written.{set_body};
 ghost use Rattle.announcement.specs.Announcements.{refusal17, refusal18};
-ghost use Rattle.announcement.specs.Sized.{AllSized};
-ghost use Rattle.announcement.specs.Entries.{ill_entry, twice_in, marks_in};
-ghost use Rattle.own_list.specs.Numbers.{entry_of, Judged};
+ghost use Rattle.announcement.specs.Sized.{Sized, AllSized};
+ghost use Rattle.announcement.specs.Entries.{entry_size, set_size, ill_entry, twice_in, marks_in, ill_list};
 
 use address::Address;
 use announcement::OwnLocator;
-use locator::LEAST_SIZE as ENTRY_SIZE;
+use locator::{LEAST_SIZE as ENTRY_SIZE, SPI_TYPE};
 use locator_set::SET_LIMIT;
 
 // The bytes of an entry with an SPI.
@@ -26,159 +24,118 @@ const SPI_ENTRY_SIZE: usize = 28;
 pub fn is_bad_count(count: usize) -> bool
     ensures { result ≡ refusal17 count }
 {
-    boolean::either(count == 0, SET_LIMIT < count)
+    count == 0 || SET_LIMIT < count
 }
 
-// How many entries the list has: `count`, or all that the array has.
-fn entry_count(count: usize) -> usize
-    ensures { result ≡ min count set_limit }
+// The list that we announce: no more entries than a set may have.
+#[derive(Clone, Copy)]
+pub struct OwnList<'l> {
+    pub entries: &'l [OwnLocator],
+    ghost few: { length entries.now ≤ set_limit },
+}
+
+// The first `count` entries of the array, or all that it has. A host hands in the array and the count, since refusal 17 is about a count that the array may
+// not have.
+pub fn first_entries(list: &[OwnLocator; SET_LIMIT], count: usize) -> OwnList
+    ensures { result.entries.now ≡ take count list.now }
 {
-    if SET_LIMIT < count { SET_LIMIT } else { count }
+    OwnList {
+        entries: &list[..count.min(SET_LIMIT)],
+    }
 }
 
-// An entry with these numbers is refused by itself. That the numbers are of their widths is said here, where it is known.
+// The entry is refused by itself. That its numbers are of their widths is said here, where it is known.
 #[tactic(auto, unfolding(announcement::specs::Entries::ill_entry))]
-fn is_ill(high: u64, low: u64, lifetime: u32, kind: u8, traffic: u8) -> bool
-    ensures { (preferred : Bool) → Judged (entry_of high low lifetime kind traffic preferred) result }
+fn is_ill(entry: &OwnLocator) -> bool
+    ensures ill { result ≡ ill_entry entry.now }
+    ensures sized { Sized entry.now }
 {
-    let address = Address { high, low };
-    boolean::either(
-        2 < traffic,
-        boolean::either(
-            1 < kind,
-            boolean::either(lifetime == 0, !address::is_legal(address)),
-        ),
-    )
+    let e = *entry;
+    2 < e.traffic || 1 < e.kind || e.lifetime == 0 || !address::is_legal(e.address)
 }
 
-// The entry is refused by itself.
-fn is_ill_entry(entry: OwnLocator) -> bool
-    ensures { Judged entry result }
+// An entry is refused by itself. None is left out, so that all of them are known to be of their widths.
+#[tactic(auto, using(crate::proofs::Judging::sized_more, std::proofs::lemmas::List::Folds::list_any_more), unfolding(announcement::specs::Sized::AllSized))]
+fn any_ill(list: &[OwnLocator]) -> bool
+    ensures ill { result ≡ list_any ill_entry list.now }
+    ensures sized { AllSized list.now }
 {
-    let address = entry.address;
-    is_ill(
-        address.high,
-        address.low,
-        entry.lifetime,
-        entry.kind,
-        entry.traffic,
-    )
-}
-
-// One of the first `count` entries is refused by itself. None is left out, so that all of them are known to be of their widths.
-#[tactic(auto, using(crate::proofs::Turns::judging_none, crate::proofs::Turns::judging_all))]
-fn any_ill(list: [OwnLocator; SET_LIMIT], count: usize) -> bool
-    requires { count ≤ set_limit }
-    ensures { (result ≡ some ill_entry (take count list)) × AllSized (take count list) }
-{
-    let held = list;
     let mut ill = false;
-    let mut i: usize = 0;
-    while i < count {
-        let entry = held[i];
-        ill = boolean::either(ill, is_ill_entry(entry));
-        i += 1;
+    for entry in list {
+        ill |= is_ill(entry);
     }
     ill
 }
 
-// One of the first `count` entries has the address.
-#[tactic(auto, using(crate::proofs::Turns::held_hit, crate::proofs::Turns::held_miss, crate::proofs::Turns::held_none))]
-fn is_held(list: [OwnLocator; SET_LIMIT], count: usize, address: Address) -> bool
-    requires { count ≤ set_limit }
-    ensures { result ≡ some (λ (e : entries.OwnLocator). same_address address e.address) (take count list) }
+// An entry has the address.
+fn is_held(list: &[OwnLocator], address: Address) -> bool
+    ensures { result ≡ list_any (λ (e : entries.OwnLocator). same_address address e.address) list.now }
 {
-    let held = list;
-    let mut i: usize = 0;
-    while i < count {
-        let entry = held[i];
-        let other = entry.address;
-        if address::same(address, other) {
+    list.iter().any(|entry| address == entry.address)
+}
+
+// An entry has the address of one before it.
+#[tactic(auto, using(crate::proofs::Judging::twice_none))]
+fn any_twice(list: &[OwnLocator]) -> bool
+    ensures { result ≡ twice_in [] list.now }
+{
+    for (i, entry) in list.iter().enumerate() {
+        if is_held(&list[..i], entry.address) {
             return true;
         }
-        i += 1;
     }
     false
 }
 
-// One of the first `count` entries has the address of one before it.
-#[tactic(auto, using(crate::proofs::Turns::comparing_none, crate::proofs::Turns::comparing_all))]
-fn any_twice(list: [OwnLocator; SET_LIMIT], count: usize) -> bool
-    requires { count ≤ set_limit }
-    ensures { result ≡ twice_in [] (take count list) }
+// How many entries have P.
+#[tactic(auto, using(crate::proofs::Judging::marks_counted))]
+fn count_marks(list: &[OwnLocator]) -> usize
+    ensures { result ≡ marks_in 0 list.now }
 {
-    let held = list;
-    let mut i: usize = 0;
-    while i < count {
-        let entry = held[i];
-        let address = entry.address;
-        if is_held(held, i, address) {
-            return true;
-        }
-        i += 1;
-    }
-    false
+    list.iter().filter(|entry| entry.preferred).count()
 }
 
-// How many of the first `count` entries have P.
-#[tactic(auto, using(crate::proofs::Turns::counting_none, crate::proofs::Turns::counting_marked, crate::proofs::Turns::counting_plain, crate::proofs::Turns::counting_all))]
-fn count_marks(list: [OwnLocator; SET_LIMIT], count: usize) -> usize
-    requires { count ≤ set_limit }
-    ensures { result ≡ marks_in 0 (take count list) }
+// The entries are refused, by themselves or together.
+fn is_ill_list(list: &[OwnLocator]) -> bool
+    ensures ill { result ≡ ill_list list.now }
+    ensures sized { AllSized list.now }
 {
-    let held = list;
-    let mut marked: usize = 0;
-    let mut i: usize = 0;
-    while i < count {
-        let entry = held[i];
-        if entry.preferred {
-            marked = marked + 1;
-            i = i + 1;
-        } else {
-            i = i + 1;
-        }
-    }
-    marked
+    any_ill(list) || any_twice(list) || 1 < count_marks(list)
 }
 
 // Refusal 18: a set of these entries would be refused, whatever the new inbound SPI.
-pub fn is_bad_list(list: [OwnLocator; SET_LIMIT], count: usize) -> bool
-    ensures { (inbound : ℕ) → result ≡ refusal18 inbound (take count list) }
+#[tactic(auto, using(crate::proofs::Judging::empty_refused, crate::proofs::Judging::list_refused_as))]
+pub fn is_bad_list(list: &OwnList) -> bool
+    ensures { (inbound : ℕ) → result ≡ refusal18 inbound list.now.entries.now }
 {
-    let judged = entry_count(count);
-    boolean::either(
-        judged == 0,
-        boolean::either(
-            any_ill(list, judged),
-            boolean::either(any_twice(list, judged), 1 < count_marks(list, judged)),
-        ),
-    )
+    list.entries.is_empty() || is_ill_list(list.entries)
 }
 
-// The bytes that an entry of this type takes.
-fn entry_size(kind: u8) -> usize
-    ensures { (result ≡ head_size + unit * units_of kind) × (result ≤ 28) }
+// The bytes that an entry takes.
+fn entry_size(entry: &OwnLocator) -> usize
+    ensures { (result ≡ entry_size entry.now) × (result ≤ 28) }
 {
-    if kind == locator::SPI_TYPE {
+    if entry.kind == SPI_TYPE {
         SPI_ENTRY_SIZE
     } else {
         ENTRY_SIZE
     }
 }
 
-// The bytes that the set takes, whatever the new inbound SPI.
-#[tactic(auto, using(crate::proofs::Turns::sizing_none))]
-pub fn set_size(list: [OwnLocator; SET_LIMIT], count: usize) -> usize
-    ensures { (inbound : ℕ) → result ≡ length (set_body inbound (take count list)) }
+// The bytes that these entries take.
+#[tactic(auto, using(crate::proofs::Judging::sizes_summed))]
+fn entries_size(list: &[OwnLocator]) -> usize
+    requires { length list.now ≤ set_limit }
+    ensures { result ≡ set_size list.now }
 {
-    let held = list;
-    let most = entry_count(count);
-    let mut size: usize = 0;
-    let mut i: usize = 0;
-    while i < most {
-        let entry = held[i];
-        size += entry_size(entry.kind);
-        i += 1;
-    }
-    size
+    list.iter().map(|entry| entry_size(entry)).sum()
+}
+
+// The bytes that the set takes, whatever the new inbound SPI.
+#[tactic(auto, using(announcement::proofs::Sizes::set_length, announcement::proofs::Sizes::set_most))]
+pub fn set_size(list: &OwnList) -> usize
+    ensures few { result ≤ 224 }
+    ensures value { (inbound : ℕ) → result ≡ length (set_body inbound list.now.entries.now) }
+{
+    entries_size(list.entries)
 }

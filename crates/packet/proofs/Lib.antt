@@ -1,4 +1,3 @@
 pub mod Choices
 pub mod Fields
 pub mod Listed
-pub mod Opaque

@@ -1,9 +1,9 @@
 -- Packets in hex, copied by hand from the layouts of RFC 7401, 7402 and 8046 and not made by the definitions: a number that is wrong in these fails here.
-use Rattle.std.specs.Prelude.{ℕ, ◌≡◌, refl, true, false, List, ◌∷◌, ◌++◌, replicate}
+use Rattle.std.specs.Prelude.{ℕ, ◌≡◌, refl, true, false, List, ◌∷◌, ◌++◌, Ok, Err, replicate}
 use Prim.Native.String.{String}
 use Rattle.refusal.specs.Table.{refusal}
 use Rattle.octets.specs.ExamplesHex.{hex}
-use Rattle.octets.specs.Records.{records, some}
+use Rattle.octets.specs.Records.{records}
 use Rattle.address.specs.Rules.{legal}
 use Rattle.parameter.specs.Types.{refused_type, wrong_length}
 use Rattle.frame.specs.Parameters.{falls}
@@ -12,7 +12,7 @@ use Rattle.locator.specs.Locators.{ill_form}
 use Rattle.locator_set.specs.Sets.{twice, marks}
 use Rattle.locator_set.specs.Examples.{nothing}
 use Rattle.packet.specs.declared.EchoResponse.TheVariants.{Nonce}
-use Rattle.packet.specs.declared.Message.TheVariants.{Refused, Move, Reply, PeerCheck}
+use Rattle.packet.specs.declared.Message.TheVariants.{Move, Reply, PeerCheck}
 use Rattle.packet.specs.Kinds.{is_move, is_reply, is_check}
 use Rattle.packet.specs.Readings.{kind_of, reading_of}
 
@@ -56,8 +56,9 @@ signature = hex "f1010005 05010203 04ffffff ffffffff"
 
 -- a whole Move, with each parameter that it may have
 whole_move : reading_of (header "3b171021" ++ (esp_info ++ (locator_set ++ (seq ++ (ack ++ (host_id ++ (echo_response ++ (mac ++ signature))))))))
-    ≡ record {
-      message = Move (record { keymat = 0x0203; old = 0x1001; new = 0x1002; id = 0x00010009; count = 2; echo = Nonce 0x0102030405060708 });
+    ≡ Ok
+    (Move (record { keymat = 0x0203; old = 0x1001; new = 0x1002; id = 0x00010009; echo = Nonce 0x0102030405060708 })
+    (record {
       listed =
           record {
             address = record { high = 0x20010db800000000; low = 1 };
@@ -76,24 +77,25 @@ whole_move : reading_of (header "3b171021" ++ (esp_info ++ (locator_set ++ (seq 
             preferred = false;
           }
           ∷ replicate 6 nothing;
-    }
-unfolding records some legal refused_type wrong_length falls occurs ill_form twice marks is_move is_reply kind_of reading_of
+      count = 2;
+    }))
+unfolding records legal refused_type wrong_length falls occurs ill_form twice marks is_move is_reply kind_of reading_of
 whole_move = refl
 
 -- a whole Reply, with each parameter that it may have
 whole_reply : reading_of (header "3b0d1021" ++ (ack ++ (host_id ++ (echo_response ++ (mac ++ signature)))))
-    ≡ record { message = Reply (Nonce 0x0102030405060708); listed = replicate 8 nothing }
-unfolding records some refused_type wrong_length falls occurs is_move is_reply kind_of reading_of
+    ≡ Ok (Reply (Nonce 0x0102030405060708))
+unfolding records refused_type wrong_length falls occurs is_move is_reply kind_of reading_of
 whole_reply = refl
 
 -- a whole Check, with each parameter that it may have, HOST_ID, MAC and signature among them
 whole_check : reading_of (header "3b101021" ++ (esp_info ++ (seq ++ (ack ++ (host_id ++ (echo_request ++ (mac ++ signature)))))))
-    ≡ record { message = PeerCheck (record { id = 0x00010009; body = 100; len = 8 }); listed = replicate 8 nothing }
-unfolding records some refused_type wrong_length falls occurs is_move is_reply is_check kind_of reading_of
+    ≡ Ok (PeerCheck (record { id = 0x00010009; body = 100; len = 8 }))
+unfolding records refused_type wrong_length falls occurs is_move is_reply is_check kind_of reading_of
 whole_check = refl
 
 -- "a Move or Reply holds no 897": the same Reply with it earns refusal 5
 request_received : reading_of (header "3b0f1021" ++ (ack ++ (host_id ++ (echo_request ++ (echo_response ++ (mac ++ signature))))))
-    ≡ record { message = Refused (refusal 5); listed = replicate 8 nothing }
-unfolding records some refused_type wrong_length falls occurs is_move is_reply is_check kind_of reading_of
+    ≡ Err (refusal 5)
+unfolding records refused_type wrong_length falls occurs is_move is_reply is_check kind_of reading_of
 request_received = refl

@@ -1,12 +1,11 @@
 -- Worked examples, computed from the definitions: the numbers of the types, lengths, and parameters in hex as RFC 7401, 7402 and 8046 lay them out.
-use Rattle.std.specs.Prelude.{ℕ, ◌≡◌, refl, true, false, List, [], ◌∷◌, map, replicate}
+use Rattle.std.specs.Prelude.{ℕ, ◌≡◌, refl, true, false, List, [], ◌∷◌, map, replicate, Option, None, Some, Result, Ok, Err}
 use Prim.Native.String.{String}
+use Rattle.refusal.specs.declared.Refusal.{Refusal}
 use Rattle.refusal.specs.Table.{refusal}
 use Rattle.octets.specs.ExamplesHex.{hex}
-use Rattle.octets.specs.Records.{some}
 use Rattle.octets.specs.Written.{bytes_of}
-use Rattle.parameter.specs.declared.Step.{Step}
-use Rattle.parameter.specs.declared.Step.TheVariants.{Found, End, Refused}
+use Rattle.parameter.specs.declared.Parameter.{Parameter}
 use Rattle.parameter.specs.Types.{esp_info, locator_set, seq, ack, host_id, echo_request_signed, echo_response_signed, hip_mac, hip_signature, refused_type, nonce_size, wrong_length}
 use Rattle.parameter.specs.Parameters.{takes, parameter_at, broken, step_at}
 use Rattle.parameter.specs.Written.{parameter_bytes}
@@ -24,7 +23,7 @@ numbers = (refl, refl)
 refused_types : (map refused_type (65 ∷ 193 ∷ 385 ∷ 449 ∷ 705 ∷ 897 ∷ 961 ∷ 61505 ∷ 61697 ∷ []) ≡ replicate 9 false)
     × (map refused_type (0 ∷ 64 ∷ 66 ∷ 192 ∷ 194 ∷ 386 ∷ 450 ∷ 706 ∷ 896 ∷ 898 ∷ 962 ∷ 61506 ∷ 61698 ∷ 65534 ∷ []) ≡ replicate 14 false)
     × (map refused_type (1 ∷ 63 ∷ 67 ∷ 191 ∷ 195 ∷ 387 ∷ 451 ∷ 707 ∷ 895 ∷ 899 ∷ 963 ∷ 61507 ∷ 61699 ∷ 65535 ∷ []) ≡ replicate 14 true)
-unfolding refused_type some
+unfolding refused_type
 refused_types = (refl, refl, refl)
 
 -- "ESP_INFO 65 has L = 12", "SEQ 385 has L = 4", "ACK 449 has L a positive multiple of 4"; any L is right for another type
@@ -45,12 +44,12 @@ sizes = (refl, refl)
 
 -- ---- parameters in hex
 -- the step at the beginning of these bytes
-abbrev at_once : String → Step
+abbrev at_once : String → Result (Option Parameter) Refusal
 at_once digits = step_at (hex digits) 0
 
 -- a parameter that is found at the beginning
-abbrev found : (kind len next : ℕ) → Step
-found kind len next = Found (record { kind = kind; len = len; body = 4; next = next })
+abbrev found : (kind len next : ℕ) → Result (Option Parameter) Refusal
+found kind len next = Ok (Some (record { kind = kind; len = len; body = 4; next = next }))
 
 -- one of each type: ESP_INFO, LOCATOR_SET with one locator, SEQ, ACK, HOST_ID, ECHO_REQUEST_SIGNED, ECHO_RESPONSE_SIGNED, HIP_MAC and HIP_SIGNATURE
 layouts : map at_once
@@ -95,6 +94,6 @@ breaks = (refl, refl)
 
 -- a step at each of them, at the last byte, at the end, and past it
 steps : map (step_at bytes) (0 ∷ 8 ∷ 16 ∷ 19 ∷ 20 ∷ 21 ∷ 1000 ∷ [])
-    ≡ Found (record { kind = 449; len = 4; body = 4; next = 8 }) ∷ Refused (refusal 3) ∷ Refused (refusal 3) ∷ Refused (refusal 3) ∷ End ∷ End ∷ End ∷ []
+    ≡ found 449 4 8 ∷ Err (refusal 3) ∷ Err (refusal 3) ∷ Err (refusal 3) ∷ Ok None ∷ Ok None ∷ Ok None ∷ []
 unfolding wrong_length
 steps = refl

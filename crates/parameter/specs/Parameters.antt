@@ -1,11 +1,10 @@
 -- "Parameters: type (2 bytes), length L (2 bytes), L bytes, padding."
-use Rattle.std.specs.Prelude.{ℕ, ◌+◌, ◌-◌, ◌%◌, Bool, cond, ◌||◌, List, ltb, leb, length}
+use Rattle.std.specs.Prelude.{ℕ, ◌+◌, ◌-◌, ◌%◌, Bool, cond, ◌||◌, List, ltb, leb, length, Option, None, Some, Result, Ok, Err}
+use Rattle.refusal.specs.declared.Refusal.{Refusal}
 use Rattle.refusal.specs.Table.{refusal}
 use Rattle.octets.specs.Numbers.{number_at}
 use Rattle.parameter.specs.Types.{wrong_length}
 use Rattle.parameter.specs.declared.Parameter.{Parameter}
-use Rattle.parameter.specs.declared.Step.{Step}
-use Rattle.parameter.specs.declared.Step.TheVariants.{Found, End, Refused}
 
 -- "One takes 11 + L - (L + 3) mod 8 bytes in all."
 abbrev pub takes : ℕ → ℕ
@@ -33,7 +32,7 @@ abbrev pub broken : List ℕ → Parameter → Bool
 broken s p = past_end s p || wrong p
 
 -- one step of the walk: at the packet's end or past it the end; refusal 3 by the parameter at `at`; else the parameter
-abbrev pub step_at : List ℕ → ℕ → Step
+abbrev pub step_at : List ℕ → ℕ → Result (Option Parameter) Refusal
 step_at s at =
-    cond (leb (length s) at) End
-    (cond (broken s (parameter_at s at)) (Refused (refusal 3)) (Found (parameter_at s at)))
+    cond (leb (length s) at) (Ok None)
+    (cond (broken s (parameter_at s at)) (Err (refusal 3)) (Ok (Some (parameter_at s at))))

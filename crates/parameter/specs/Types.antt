@@ -1,6 +1,6 @@
 -- The types of parameters: which are known, which are refused, and the lengths that three of them must have.
 use Rattle.std.specs.Prelude.{ℕ, ◌%◌, Bool, false, not, cond, ◌&&◌, ◌||◌, List, [], ◌∷◌, eqb}
-use Rattle.octets.specs.Records.{some}
+use Rattle.std.specs.List.{list_any}
 
 -- the known types, by their names
 abbrev pub esp_info : ℕ
@@ -36,7 +36,7 @@ received = esp_info ∷ locator_set ∷ seq ∷ ack ∷ host_id ∷ echo_request
 
 -- "Another even type is stepped over; another odd type .. is refused."
 unfoldable pub refused_type : ℕ → Bool
-refused_type kind = eqb (kind % 2) 1 && not (some (eqb kind) received)
+refused_type kind = eqb (kind % 2) 1 && not (list_any (eqb kind) received)
 
 -- "ESP_INFO 65 has L = 12"
 abbrev pub esp_info_length : ℕ

@@ -1,4 +1,4 @@
-// A parameter of an UPDATE packet: its type, its length, and one step of the walk over parameters. Depends on octets, boolean, refusal.
+// A parameter of an UPDATE packet: its type, its length, and one step of the walk over parameters. Depends on octets, refusal.
 #![tactic(auto)]
 
 ghost use Rattle.std.specs.Prelude.{◌≡◌};
@@ -7,7 +7,8 @@ ghost use Rattle.parameter.specs.Parameters.{takes, step_at};
 
 use refusal::Refusal;
 
-// The types of parameters that are known (document 01, "The bytes of a message").
+// The types of parameters that are known (document 01, "The bytes of a message"). They are numbers and no enum: their order is judged, and that of types
+// which are not known.
 pub const ESP_INFO: usize = 65;
 
 pub const LOCATOR_SET: usize = 193;
@@ -48,23 +49,16 @@ pub struct Parameter {
     pub next: usize,
 }
 
-// What stands at a place of a packet: a parameter, the end, or what refusal 3 refuses.
-#[derive(Clone, Copy)]
-pub enum Step {
-    Found(Parameter),
-    End,
-    Refused(Refusal),
-}
-
 // The bytes that a parameter takes in all whose length L is this: its head and L bytes, up to a multiple of 8.
+// It is no `next_multiple_of`: that was tried, and took four instructions more for each parameter of a walk.
 pub fn taken_by(len: u16) -> usize
     ensures { result ≡ takes len }
 {
-    (len as usize + 11) / 8 * 8
+    (usize::from(len) + 11) / 8 * 8
 }
 
 // A type that refusal 4 refuses.
-#[tactic(auto, using(std::proofs::lemmas::Bool::Decides::nat_tests), unfolding(crate::specs::Types::refused_type, octets::specs::Records::some))]
+#[tactic(auto, using(std::proofs::lemmas::Bool::Decides::nat_tests), unfolding(crate::specs::Types::refused_type))]
 pub fn refused_type(kind: usize) -> bool
     ensures { result ≡ refused_type kind }
 {
@@ -90,35 +84,32 @@ fn wrong_length(kind: usize, len: usize) -> bool
     match kind {
         ESP_INFO => len != ESP_INFO_LENGTH,
         SEQ => len != SEQ_LENGTH,
-        ACK => boolean::either(len == 0, len % ACK_UNIT != 0),
+        ACK => len == 0 || len % ACK_UNIT != 0,
         _ => false,
     }
 }
 
-// One step of the walk over the parameters: what stands at `at`, for every place of any slice.
-pub fn step_at(packet: &[u8], at: usize) -> Step
+// One step of the walk over the parameters, for every place of any slice: the parameter at `at`, `None` at the end, or refusal 3.
+pub fn step_at(packet: &[u8], at: usize) -> Result<Option<Parameter>, Refusal>
     ensures { result ≡ step_at packet.now at }
 {
     if packet.len() <= at {
-        return Step::End;
+        return Ok(None);
     }
     let left = packet.len() - at;
     if left < LEAST_SIZE {
-        return Step::Refused(Refusal::Malformed);
+        return Err(Refusal::Malformed);
     }
     let kind = octets::u16_at(packet, at);
     let len = octets::u16_at(packet, at + 2);
     let size = taken_by(len as u16);
-    if left < size {
-        return Step::Refused(Refusal::Malformed);
+    if left < size || wrong_length(kind, len) {
+        return Err(Refusal::Malformed);
     }
-    if wrong_length(kind, len) {
-        return Step::Refused(Refusal::Malformed);
-    }
-    Step::Found(Parameter {
+    Ok(Some(Parameter {
         kind,
         len,
         body: at + 4,
         next: at + size,
-    })
+    }))
 }

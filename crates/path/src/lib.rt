@@ -1,33 +1,22 @@
-// The choice of path: which slot a payload may go to. Depends on slots, slot and boolean.
-// The functions take the slots and not the association, so that they serve an association with several sets of slots.
+// The choice of path: which slot a payload may go to. Depends on slots and slot.
+// The functions take the slots and the preference, and not the association, so that they serve an association with several sets of slots.
 #![tactic(auto)]
 
-ghost use Rattle.std.specs.Prelude.{◌≡◌};
-ghost use Rattle.slot.specs.Found.{slot_at};
-ghost use Rattle.path.specs.Choices.{carries, lowest, choice, path_of};
-ghost use Rattle.path.specs.Wanted.{wanted_status, wanted};
+ghost use Rattle.std.specs.Prelude.{◌≡◌, false, Bool};
+ghost use Rattle.std.specs.Fn.{FnReturnsAt};
+ghost use Rattle.slot.specs.Found.{empty_slot};
+ghost use Rattle.slot.specs.declared.Slot as slots_of;
+ghost use Rattle.path.specs.Choices.{carries, active_carrier, unverified_carrier, choice, path_of};
 
-use slot::{Holding, SLOT_COUNT, Slot, Status};
+use slot::{SLOT_COUNT, Slot, Status};
 
-// The traffic types that carry payload: both kinds of traffic, and data alone.
+// The traffic types that carry payload: both kinds of traffic, and data alone. A traffic type is a number in each locator, since one that a host hands in may
+// have any, and carries nothing then.
 pub const TRAFFIC_BOTH: u8 = 0;
 
 pub const TRAFFIC_DATA: u8 = 2;
 
-// The slot that the peer prefers, or none.
-#[derive(Clone, Copy)]
-pub enum Preference {
-    NoPreference,
-    Prefers(usize),
-}
-
-#[derive(Clone, Copy)]
-pub enum Choice {
-    Nowhere,
-    Chosen(usize),
-}
-
-// The slot that is picked, with the status that it has, or no carrier is ACTIVE or UNVERIFIED.
+// The slot that is picked, with the status that it has, or no carrier is ACTIVE or UNVERIFIED: three cases, which the definition names, and no Option of a pair.
 #[derive(Clone, Copy)]
 pub enum Path {
     ToActive(usize),
@@ -39,91 +28,49 @@ pub enum Path {
 pub fn is_carrier(traffic: u8) -> bool
     ensures { result ≡ carries traffic }
 {
-    boolean::either(traffic == TRAFFIC_BOTH, traffic == TRAFFIC_DATA)
+    traffic == TRAFFIC_BOTH || traffic == TRAFFIC_DATA
 }
 
-// The status is ACTIVE, where that is wanted, or else UNVERIFIED.
-fn has_status(status: Status, active: bool) -> bool
-    ensures { result ≡ wanted_status active status }
+// The slot holds a carrier that is ACTIVE.
+fn is_active_carrier(slot: &Slot) -> bool
+    ensures { result ≡ active_carrier slot.now }
 {
-    match status {
-        Status::Unverified(_) => !active,
-        Status::Active => active,
-        Status::Deprecated => false,
-    }
+    slot.holding.is_some_and(|l| is_carrier(l.traffic) && matches!(l.status, Status::Active))
 }
 
-// The slot holds a carrier with the status that is wanted.
-fn is_fit(slot: Slot, active: bool) -> bool
-    ensures { result ≡ wanted active slot }
+// The slot holds a carrier that is UNVERIFIED.
+fn is_unverified_carrier(slot: &Slot) -> bool
+    ensures { result ≡ unverified_carrier slot.now }
 {
-    let holding = slot.holding;
-    match holding {
-        Holding::Empty => false,
-        Holding::Held(l) => {
-            let status = l.status;
-            boolean::both(is_carrier(l.traffic), has_status(status, active))
-        }
-    }
+    slot.holding.is_some_and(|l| is_carrier(l.traffic) && matches!(l.status, Status::Unverified(_)))
 }
 
-// The lowest slot that fits.
-fn lowest_fit(slots: [Slot; SLOT_COUNT], active: bool) -> Choice
-    ensures { result ≡ lowest (wanted active) 0 slots }
+// The preferred slot if it fits, or else the lowest that does. The contract holds of each test that `fits` computes, and that an empty slot does not pass: a
+// preferred number may lie past the slots.
+fn choose<F: Fn(&Slot) -> bool>(
+    slots: &[Slot; SLOT_COUNT],
+    preferred: Option<usize>,
+    fits: F,
+) -> Option<usize>
+    requires { F.IsAlwaysCallable fits }
+    ensures { (test : slots_of.Slot → Bool) → test empty_slot ≡ false → ((s : slots_of.Slot) (b : Bool) → FnReturnsAt F.Fn fits s b → b ≡ test s) → result ≡ choice test preferred slots.now }
 {
-    let held = slots;
-    let mut i: usize = 0;
-    while i < SLOT_COUNT {
-        let slot = held[i];
-        if is_fit(slot, active) {
-            return Choice::Chosen(i);
-        }
-        i += 1;
-    }
-    Choice::Nowhere
-}
-
-// The slot of a number is there and fits.
-fn fits_at(slots: [Slot; SLOT_COUNT], active: bool, n: usize) -> bool
-    ensures { result ≡ wanted active (slot_at n slots) }
-{
-    let held = slots;
-    if n < SLOT_COUNT {
-        let slot = held[n];
-        return is_fit(slot, active);
-    }
-    false
-}
-
-// The preferred slot if it fits, or else the lowest that does.
-fn choose(slots: [Slot; SLOT_COUNT], preference: Preference, active: bool) -> Choice
-    ensures { result ≡ choice (wanted active) preference slots }
-{
-    match preference {
-        Preference::NoPreference => lowest_fit(slots, active),
-        Preference::Prefers(n) => {
-            if fits_at(slots, active, n) {
-                return Choice::Chosen(n);
-            }
-            lowest_fit(slots, active)
-        }
+    match preferred {
+        Some(n) if n < SLOT_COUNT && fits(&slots[n]) => Some(n),
+        _ => slots.iter().position(fits),
     }
 }
 
 // The path that a payload takes: to ACTIVE if there is one, or else to UNVERIFIED.
 #[tactic(auto, unfolding(crate::specs::Choices::path_of))]
-pub fn pick(slots: [Slot; SLOT_COUNT], preference: Preference) -> Path
-    ensures { result ≡ path_of preference slots }
+pub fn pick(slots: &[Slot; SLOT_COUNT], preferred: Option<usize>) -> Path
+    ensures { result ≡ path_of preferred slots.now }
 {
-    let active = choose(slots, preference, true);
-    match active {
-        Choice::Chosen(i) => Path::ToActive(i),
-        Choice::Nowhere => {
-            let unverified = choose(slots, preference, false);
-            match unverified {
-                Choice::Chosen(i) => Path::ToUnverified(i),
-                Choice::Nowhere => Path::NoCarrier,
-            }
-        }
+    if let Some(i) = choose(slots, preferred, is_active_carrier) {
+        return Path::ToActive(i);
+    }
+    match choose(slots, preferred, is_unverified_carrier) {
+        Some(i) => Path::ToUnverified(i),
+        None => Path::NoCarrier,
     }
 }

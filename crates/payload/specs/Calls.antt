@@ -1,5 +1,5 @@
 -- Arrival and send: each answer with the association after it. A refusal gives back the association as it was.
-use Rattle.std.specs.Prelude.{ℕ, ◌-◌, cond}
+use Rattle.std.specs.Prelude.{ℕ, ◌-◌, cond, Err, Ok}
 use Rattle.refusal.specs.Table.{refusal}
 use Rattle.path.specs.Choices.{path_of}
 use Rattle.path.specs.declared.Path.{Path}
@@ -8,7 +8,6 @@ use Rattle.credit.specs.Credit.{refusal13, credited, covers}
 use Rattle.association.specs.Form.{refusal0, with_credit, accepted, refused}
 use Rattle.association.specs.declared.Association.{Association}
 use Rattle.association.specs.declared.Answer.{Answer}
-use Rattle.payload.specs.declared.SendOutcome.TheVariants.{Granted, Denied}
 use Rattle.payload.specs.declared.SendAnswer.{SendAnswer}
 
 -- "Arrival adds its size, stopping at the limit." Refusal 0 comes first, then 13
@@ -20,11 +19,11 @@ arrival_of a size =
 
 -- the send is granted slot n and leaves this association
 abbrev pub granted : (n : ℕ) → Association → SendAnswer
-granted n a = record { outcome = Granted n; association = a }
+granted n a = record { outcome = Ok n; association = a }
 
 -- the send is refused by this number of document 01's table and leaves this association
 abbrev pub denied : (number : ℕ) → Association → SendAnswer
-denied number a = record { outcome = Denied (refusal number); association = a }
+denied number a = record { outcome = Err (refusal number); association = a }
 
 -- refusal 14: "no carrier ACTIVE or UNVERIFIED". "To ACTIVE no credit is taken. To UNVERIFIED the packet is granted exactly if credit is higher
 -- than its size, and the size is taken off." Refusal 15: "UNVERIFIED chosen, credit not higher"

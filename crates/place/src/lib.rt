@@ -1,237 +1,127 @@
-// Steps 5 and 6 of a Move: slots for the listed addresses that none holds, and the preference. Depends on readdress, credit, path, slot and address.
+// Steps 5 and 6 of a Move: slots for the listed addresses that none holds, and the preference. Depends on listed, readdress, credit and slot.
 #![tactic(auto)]
 
-ghost use Rattle.std.specs.Prelude.{◌≡◌, cond, ◌<◌, take};
+ghost use Rattle.std.specs.Prelude.{◌≡◌, cond, ◌<◌, IfSome, None};
 ghost use Rattle.credit.specs.Clock.{time_limit};
 ghost use Rattle.slot.specs.Found.{holds, slot_count};
 ghost use Rattle.path.specs.Choices.{lowest};
-ghost use Rattle.path.specs.declared.Choice.TheVariants.{Nowhere};
-ghost use Rattle.readdress.specs.Steps.{is_free, entered, dropped, is_held, place_all, marked_slot};
+ghost use Rattle.readdress.specs.Steps.{is_free, entered, dropped, is_held, place_other, marked_entry};
 ghost use Rattle.readdress.specs.Moves.{new_preference};
 ghost use Rattle.place.specs.Placing.{placed_at};
-ghost use Rattle.place.specs.Numbered.{number_of};
 
 use address::Address;
 use credit::TIME_LIMIT;
 use locator::ListedLocator;
-use locator_set::SET_LIMIT;
-use path::{Choice, Preference};
 use readdress::Placement;
-use slot::{Holding, Locator, SLOT_COUNT, Slot, Status};
+use slot::{Locator, SLOT_COUNT, Slot, Status};
 
-// The lowest slot that is free: empty, or with a DEPRECATED address that the set does not list. Its number is below the count of slots.
-// The set is searched here, for each slot, and not in a function that would copy it.
-fn lowest_free(
-    slots: [Slot; SLOT_COUNT],
-    listed: [ListedLocator; SET_LIMIT],
-    count: usize,
-) -> Choice
-    ensures { (result ≡ lowest (is_free (take count listed)) 0 slots) × (number_of result < slot_count) }
+// The slot is empty, or has a DEPRECATED address that the set does not list.
+fn is_free(slot: &Slot, listed: &[ListedLocator]) -> bool
+    ensures { result ≡ is_free listed.now slot.now }
 {
-    let held = slots;
-    let set = listed;
-    let mut i: usize = 0;
-    'slots: while i < SLOT_COUNT {
-        let slot = held[i];
-        let holding = slot.holding;
-        // An empty slot is free.
-        let Holding::Held(l) = holding else {
-            return Choice::Chosen(i);
-        };
-        // One with a locator that is not DEPRECATED is not.
-        let status = l.status;
-        if !slot::is_deprecated(status) {
-            i += 1;
-            continue 'slots;
-        }
-        // Of the others, one with a listed address is not.
-        let address = l.address;
-        let mut j: usize = 0;
-        while j < SET_LIMIT {
-            if count <= j {
-                return Choice::Chosen(i);
-            }
-            let entry = set[j];
-            let other = entry.address;
-            if address::same(address, other) {
-                i += 1;
-                continue 'slots;
-            }
-            j += 1;
-        }
-        return Choice::Chosen(i);
+    match slot.holding {
+        None => true,
+        Some(l) => slot::is_deprecated(l.status) && !listed::is_listed(listed, l.address),
     }
-    Choice::Nowhere
+}
+
+// The lowest slot that is free.
+fn lowest_free(slots: &[Slot; SLOT_COUNT], listed: &[ListedLocator]) -> Option<usize>
+    ensures found { result ≡ lowest (is_free listed.now) 0 slots.now }
+    ensures within { IfSome result (λ n. n < slot_count) }
+{
+    slots.iter().position(|slot| is_free(slot, listed))
 }
 
 // The slot holds the address.
-fn is_holder(slot: Slot, address: Address) -> bool
-    ensures { result ≡ holds address slot }
+fn is_holder(slot: &Slot, address: Address) -> bool
+    ensures { result ≡ holds address slot.now }
 {
-    let holding = slot.holding;
-    match holding {
-        Holding::Empty => false,
-        Holding::Held(l) => {
-            let other = l.address;
-            address::same(address, other)
-        }
-    }
+    slot.holding.is_some_and(|l| address == l.address)
 }
 
 // The slot that holds the address.
-fn slot_of(slots: [Slot; SLOT_COUNT], address: Address) -> Choice
-    ensures { result ≡ lowest (holds address) 0 slots }
+fn slot_of(slots: &[Slot; SLOT_COUNT], address: Address) -> Option<usize>
+    ensures { result ≡ lowest (holds address) 0 slots.now }
 {
-    let held = slots;
-    let mut i: usize = 0;
-    while i < SLOT_COUNT {
-        let slot = held[i];
-        if is_holder(slot, address) {
-            return Choice::Chosen(i);
-        }
-        i += 1;
-    }
-    Choice::Nowhere
+    slots.iter().position(|slot| is_holder(slot, address))
+}
+
+// A slot holds the address.
+fn is_held(slots: &[Slot; SLOT_COUNT], address: Address) -> bool
+    ensures { result ≡ is_held address slots.now }
+{
+    slots.iter().any(|slot| is_holder(slot, address))
 }
 
 // A preference for a refilled slot is dropped.
-fn drop_preference(preferred: Preference, refilled: usize) -> Preference
+fn drop_preference(preferred: Option<usize>, refilled: usize) -> Option<usize>
     ensures { result ≡ dropped refilled preferred }
 {
-    match preferred {
-        Preference::NoPreference => preferred,
-        Preference::Prefers(m) => {
-            if refilled == m {
-                return Preference::NoPreference;
-            }
-            preferred
-        }
-    }
+    preferred.filter(|n| *n != refilled)
 }
 
-// A slot that the entry takes. It awaits its check, which makes it UNVERIFIED.
-fn filled(entry: ListedLocator, time: u64) -> Slot
+// A slot that the entry takes. It awaits its check, which makes it UNVERIFIED. That the time is below its limit is tested once, in `place_all`.
+fn filled(entry: &ListedLocator, time: u64) -> Slot
     requires { time < time_limit }
-    ensures { result ≡ entered time entry }
+    ensures { result ≡ entered time entry.now }
 {
-    let address = entry.address;
     Slot {
-        holding: Holding::Held(Locator {
-            address,
+        holding: Some(Locator {
+            address: entry.address,
             traffic: entry.traffic,
-            expiry: time + entry.lifetime as u64,
+            expiry: time + u64::from(entry.lifetime),
             status: Status::Deprecated,
         }),
     }
 }
 
 // The slot that an entry with this address takes: none where the address is held already, or else the lowest free one.
-fn room_for(
-    slots: [Slot; SLOT_COUNT],
-    listed: [ListedLocator; SET_LIMIT],
-    count: usize,
-    address: Address,
-) -> Choice
-    ensures { (result ≡ cond (is_held address slots) Nowhere (lowest (is_free (take count listed)) 0 slots)) × (number_of result < slot_count) }
+fn room_for(slots: &[Slot; SLOT_COUNT], listed: &[ListedLocator], address: Address) -> Option<usize>
+    ensures found { result ≡ cond (is_held address slots.now) None (lowest (is_free listed.now) 0 slots.now) }
+    ensures within { IfSome result (λ n. n < slot_count) }
 {
-    let holder = slot_of(slots, address);
-    match holder {
-        Choice::Nowhere => lowest_free(slots, listed, count),
-        Choice::Chosen(_) => Choice::Nowhere,
+    if is_held(slots, address) {
+        None
+    } else {
+        lowest_free(slots, listed)
     }
 }
 
-// Each entry of the set takes its slot, in listed order. Slots and preference are changed where they stand: a Placement that goes through
-// a function for each entry would be copied by each.
-fn place_each(
-    p: Placement,
-    time: u64,
-    listed: [ListedLocator; SET_LIMIT],
-    count: usize,
-) -> Placement
+// An entry of the set takes its slot, unless its address is held already.
+fn place_entry(p: &mut Placement, time: u64, listed: &[ListedLocator], entry: &ListedLocator)
     requires { time < time_limit }
-    ensures { result ≡ place_all time (take count listed) (take count listed) p }
+    ensures { p.new ≡ place_other time listed.now entry.now p.old }
 {
-    let set = listed;
-    let mut slots = p.slots;
-    let mut preferred = p.preferred;
-    let mut i: usize = 0;
-    while i < SET_LIMIT {
-        if count <= i {
-            return Placement { slots, preferred };
-        }
-        let entry = set[i];
-        let address = entry.address;
-        let room = room_for(slots, set, count, address);
-        match room {
-            Choice::Nowhere => {
-                i += 1;
-            }
-            Choice::Chosen(n) => {
-                slots[n] = filled(entry, time);
-                preferred = drop_preference(preferred, n);
-                i += 1;
-            }
-        }
+    if let Some(n) = room_for(&p.slots, listed, entry.address) {
+        p.slots[n] = filled(entry, time);
+        p.preferred = drop_preference(p.preferred, n);
     }
-    Placement { slots, preferred }
 }
 
-// Step 5: every listed address has a slot. A time that no association has leaves the slots and the preference as they are.
-pub fn place_all(
-    p: Placement,
-    time: u64,
-    listed: [ListedLocator; SET_LIMIT],
-    count: usize,
-) -> Placement
-    ensures { result ≡ placed_at time (take count listed) p }
+// Step 5: every listed address has a slot, in listed order. A time that no association has leaves the slots and the preference as they are.
+pub fn place_all(p: &mut Placement, time: u64, listed: &[ListedLocator])
+    ensures { p.new ≡ placed_at time listed.now p.old }
 {
     if time < TIME_LIMIT {
-        return place_each(p, time, listed, count);
+        for entry in listed {
+            place_entry(p, time, listed, entry);
+        }
     }
-    p
 }
 
-// The locator has P.
-fn is_marked(entry: ListedLocator) -> bool
-    ensures { result ≡ entry.preferred }
+// The locator with P.
+fn marked(listed: &[ListedLocator]) -> Option<ListedLocator>
+    ensures { result ≡ marked_entry listed.now }
 {
-    entry.preferred
-}
-
-// The slot that holds the address of the locator with P.
-fn marked_slot(
-    slots: [Slot; SLOT_COUNT],
-    listed: [ListedLocator; SET_LIMIT],
-    count: usize,
-) -> Choice
-    ensures { result ≡ marked_slot (take count listed) slots }
-{
-    let set = listed;
-    let mut i: usize = 0;
-    while i < SET_LIMIT {
-        if count <= i {
-            return Choice::Nowhere;
-        }
-        let entry = set[i];
-        if is_marked(entry) {
-            let address = entry.address;
-            return slot_of(slots, address);
-        }
-        i += 1;
-    }
-    Choice::Nowhere
+    listed.iter().copied().find(|entry| entry.preferred)
 }
 
 // Step 6: the locator with P becomes preferred; without P the preference stays.
-pub fn prefer(p: Placement, listed: [ListedLocator; SET_LIMIT], count: usize) -> Preference
-    ensures { result ≡ new_preference (take count listed) p }
+pub fn prefer(p: &Placement, listed: &[ListedLocator]) -> Option<usize>
+    ensures { result ≡ new_preference listed.now p.now }
 {
-    let slots = p.slots;
-    let preferred = p.preferred;
-    let marked = marked_slot(slots, listed, count);
-    match marked {
-        Choice::Nowhere => preferred,
-        Choice::Chosen(n) => Preference::Prefers(n),
-    }
+    marked(listed)
+        .and_then(|entry| slot_of(&p.slots, entry.address))
+        .or(p.preferred)
 }

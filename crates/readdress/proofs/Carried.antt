@@ -8,13 +8,10 @@ use native.Mathlib.Omega.{arith}
 use Rattle.packet.specs.declared.EchoResponse.{EchoResponse}
 use Rattle.locator.specs.declared.ListedLocator.{ListedLocator}
 use Rattle.slot.specs.declared.Check.{Check}
-use Rattle.slot.specs.declared.Holding.{Holding}
-use Rattle.slot.specs.declared.Holding.TheVariants.{Empty, Held}
 use Rattle.slot.specs.declared.Slot.{Slot}
 use Rattle.slot.specs.Found.{on_locator}
 use Rattle.slot.proofs.Carried.{HeldBy, Carries, settled_carries}
 use Rattle.slots.proofs.Each.{All, all_map, all_set}
-use Rattle.path.specs.declared.Preference.{Preference}
 use Rattle.readdress.specs.declared.Placement.{Placement}
 use Rattle.readdress.specs.Echoes.{verify_locator, verify_all}
 use Rattle.readdress.specs.Steps.{entered, place_all}
@@ -22,6 +19,8 @@ use Rattle.readdress.specs.Checks.{awaits, check_count, new_check, with_check, c
 use Rattle.readdress.specs.Moves.{settled, placed, new_checks, new_slots}
 use Rattle.readdress.proofs.Settled.{verify_settles, steps_keep}
 use Rattle.readdress.proofs.Placed.{entries_keep}
+use Rattle.std.specs.Prelude.{None, Option, Some}
+use Rattle.slot.specs.declared.Locator.{Locator}
 
 module _ (P : Check → Type 0) where
   -- step 1
@@ -44,9 +43,9 @@ module _ (P : Check → Type 0) where
     given_carried : (k : ℕ) (s : Slot) → P (new_check time next nonces k) → Carries P (with_check time next nonces k s)
     given_carried k s p = go s.holding
       where
-        go : (h : Holding) → HeldBy P (with_check time next nonces k (record { holding = h })).holding
-        go Empty = tt
-        go (Held l) = p
+        go : (h : Option Locator) → HeldBy P (with_check time next nonces k (record { holding = h })).holding
+        go None = tt
+        go (Some l) = p
 
     checked_carried : (k : ℕ) (ss : List Slot) → ((j : ℕ) → k ≤ j → j < k + check_count listed ss → P (new_check time next nonces j)) → All (Carries P) ss →
         All (Carries P) (checked listed time next nonces k ss)
@@ -66,7 +65,7 @@ module _ (P : Check → Type 0) where
             let counted : check_count listed (s ∷ ss) ≡ check_count listed ss = rw e in (p.0, same (λ j l m. fresh j l (omega arith)))
 
   -- a Move as a whole
-  pub moved_carried : (time : ℕ) (differs : Bool) (e : EchoResponse) (listed : List ListedLocator) (p : Preference) (next : ℕ) (nonces : List ℕ) (ss : List Slot) →
+  pub moved_carried : (time : ℕ) (differs : Bool) (e : EchoResponse) (listed : List ListedLocator) (p : Option ℕ) (next : ℕ) (nonces : List ℕ) (ss : List Slot) →
       ((j : ℕ) → j < new_checks listed (placed time differs e listed p ss) → P (new_check time next nonces j)) → All (Carries P) ss →
       All (Carries P) (new_slots listed time next nonces (placed time differs e listed p ss))
   unfolding placed

@@ -1,14 +1,13 @@
 -- The new checks: what they make of the status of an address; their nonces are apart from each other and from those that are outstanding. Assumes nothing.
 use mathlib.Core.Path.{◌≡◌, refl, ◌∙◌, sym, ap}
 use mathlib.Core.Bool.{Bool, true, false, cond, ◌&&◌}
-use mathlib.Core.Option.{Option, none, some, map}
 use mathlib.Core.List.{List, [], ◌∷◌}
 use Prim.Native.Nat.{ℕ, ◌+◌, ◌≤◌, ◌<◌, zero, suc}
 use lib.Dec.{eqb}
 use lib.ListN.{get_or, length}
 use native.Mathlib.Omega.{arith}
 use Rattle.boolean.proofs.Laws.{eqb_turned, and_true_left, and_true_right, or_false_left, or_false_right}
-use Rattle.octets.specs.Records as records
+use Rattle.std.specs.List.{list_any}
 use Rattle.address.proofs.Equal.{same_equal}
 use Rattle.address.specs.Rules.{same_address}
 use Rattle.address.specs.declared.Address.{Address}
@@ -16,8 +15,6 @@ use Rattle.locator.specs.declared.ListedLocator.{ListedLocator}
 use Rattle.slot.proofs.Settled.{Clear, Lacks, clear_turned}
 use Rattle.slot.specs.Clashes.{same_nonce, clash_held, clash}
 use Rattle.slot.specs.Found.{is_deprecated, holds_held, holds, status_held, or_else, status_in, found_as, is_nonce, held_as, status_of}
-use Rattle.slot.specs.declared.Holding.{Holding}
-use Rattle.slot.specs.declared.Holding.TheVariants.{Empty, Held}
 use Rattle.slot.specs.declared.Locator.{Locator}
 use Rattle.slot.specs.declared.Slot.{Slot}
 use Rattle.slot.specs.declared.Status.{Status}
@@ -27,38 +24,39 @@ use Rattle.slots.specs.Rules.{is_outstanding}
 use Rattle.readdress.specs.Checks.{awaits, check_count, checked_by, with_check, checked, twice, refusal10, awaits_held, check_for}
 use Rattle.readdress.specs.Steps.{is_listed}
 use Rattle.readdress.proofs.Live.{live}
+use Rattle.std.specs.Prelude.{None, Option, Some, option_map}
 
 -- ---- the status of an address
 -- it is UNVERIFIED with the check that the address gets, or else as it was
 module _ (x : Address) (listed : List ListedLocator) (time next : ℕ) (nonces : List ℕ) where
-  held_status : (k : ℕ) (h : Holding) (b : Bool) (o o' : Option Status) (t : Option ℕ) → o' ≡ or_else (map (checked_by time next nonces) t) o →
+  held_status : (k : ℕ) (h : Option Locator) (b : Bool) (o o' : Option Status) (t : Option ℕ) → o' ≡ or_else (option_map (checked_by time next nonces) t) o →
       or_else (status_held x (cond b (with_check time next nonces k (record { holding = h })) (record { holding = h })).holding) o'
-      ≡ or_else (map (checked_by time next nonces) (cond (holds_held x h) (cond b (some k) none) t)) (or_else (status_held x h) o)
-  held_status k Empty true o o' t q = q
-  held_status k Empty false o o' t q = q
-  held_status k (Held l) true o o' t q = go (same_address x l.address)
+      ≡ or_else (option_map (checked_by time next nonces) (cond (holds_held x h) (cond b (Some k) None) t)) (or_else (status_held x h) o)
+  held_status k None true o o' t q = q
+  held_status k None false o o' t q = q
+  held_status k (Some l) true o o' t q = go (same_address x l.address)
     where
-      go : (c : Bool) → or_else (cond c (some (checked_by time next nonces k)) none) o'
-          ≡ or_else (map (checked_by time next nonces) (cond c (some k) t)) (or_else (cond c (some l.status) none) o)
+      go : (c : Bool) → or_else (cond c (Some (checked_by time next nonces k)) None) o'
+          ≡ or_else (option_map (checked_by time next nonces) (cond c (Some k) t)) (or_else (cond c (Some l.status) None) o)
       go true = refl
       go false = q
-  held_status k (Held l) false o o' t q = go (same_address x l.address)
+  held_status k (Some l) false o o' t q = go (same_address x l.address)
     where
-      go : (c : Bool) → or_else (cond c (some l.status) none) o'
-          ≡ or_else (map (checked_by time next nonces) (cond c none t)) (or_else (cond c (some l.status) none) o)
+      go : (c : Bool) → or_else (cond c (Some l.status) None) o'
+          ≡ or_else (option_map (checked_by time next nonces) (cond c None t)) (or_else (cond c (Some l.status) None) o)
       go true = refl
       go false = q
 
   pub checked_status : (k : ℕ) (ss : List Slot) →
-      status_in x (checked listed time next nonces k ss) ≡ or_else (map (checked_by time next nonces) (check_for x listed k ss)) (status_in x ss)
+      status_in x (checked listed time next nonces k ss) ≡ or_else (option_map (checked_by time next nonces) (check_for x listed k ss)) (status_in x ss)
   unfolding checked status_in check_for
   checked_status k [] = refl
   checked_status k (s ∷ ss) = go (awaits listed s) (checked_status k ss) (checked_status (k + 1) ss)
     where
-      go : (b : Bool) → status_in x (checked listed time next nonces k ss) ≡ or_else (map (checked_by time next nonces) (check_for x listed k ss)) (status_in x ss) →
-          status_in x (checked listed time next nonces (k + 1) ss) ≡ or_else (map (checked_by time next nonces) (check_for x listed (k + 1) ss)) (status_in x ss) →
+      go : (b : Bool) → status_in x (checked listed time next nonces k ss) ≡ or_else (option_map (checked_by time next nonces) (check_for x listed k ss)) (status_in x ss) →
+          status_in x (checked listed time next nonces (k + 1) ss) ≡ or_else (option_map (checked_by time next nonces) (check_for x listed (k + 1) ss)) (status_in x ss) →
           status_in x (cond b (with_check time next nonces k s ∷ checked listed time next nonces (k + 1) ss) (s ∷ checked listed time next nonces k ss))
-          ≡ or_else (map (checked_by time next nonces) (cond (holds x s) (cond b (some k) none) (check_for x listed (cond b (k + 1) k) ss)))
+          ≡ or_else (option_map (checked_by time next nonces) (cond (holds x s) (cond b (Some k) None) (check_for x listed (cond b (k + 1) k) ss)))
           (or_else (status_held x s.holding) (status_in x ss))
       go true same more = held_status k s.holding true (status_in x ss) (status_in x (checked listed time next nonces (k + 1) ss)) (check_for x listed (k + 1) ss) more
       go false same more = held_status k s.holding false (status_in x ss) (status_in x (checked listed time next nonces k ss)) (check_for x listed k ss) same
@@ -66,30 +64,30 @@ module _ (x : Address) (listed : List ListedLocator) (time next : ℕ) (nonces :
 module _ (x : Address) (listed : List ListedLocator) where
   -- the first slot that holds an address decides its status and whether it gets a check
   data First (k : ℕ) (ss : List Slot) : Type 0 where
-    nowhere : status_in x ss ≡ none → check_for x listed k ss ≡ none → First k ss
-    first : (l : Locator) (j : ℕ) → x ≡ l.address → status_in x ss ≡ some l.status →
-        check_for x listed k ss ≡ cond (awaits_held listed (Held l)) (some j) none → First k ss
+    nowhere : status_in x ss ≡ None → check_for x listed k ss ≡ None → First k ss
+    first : (l : Locator) (j : ℕ) → x ≡ l.address → status_in x ss ≡ Some l.status →
+        check_for x listed k ss ≡ cond (awaits_held listed (Some l)) (Some j) None → First k ss
 
   first_in : (k : ℕ) (ss : List Slot) → First k ss
   unfolding check_for status_in
   first_in k [] = nowhere refl refl
   first_in k (s ∷ ss) = held s.holding refl (first_in (cond (awaits listed s) (k + 1) k) ss)
     where
-      passed : status_held x s.holding ≡ none → holds x s ≡ false → First (cond (awaits listed s) (k + 1) k) ss → First k (s ∷ ss)
+      passed : status_held x s.holding ≡ None → holds x s ≡ false → First (cond (awaits listed s) (k + 1) k) ss → First k (s ∷ ss)
       passed u h (nowhere p q) = nowhere (rw u p) (rw h q)
       passed u h (first l j e p q) = first l j e (rw u p) (rw h q)
 
-      here : (l : Locator) (b : Bool) → s.holding ≡ Held l → same_address x l.address ≡ b → First (cond (awaits listed s) (k + 1) k) ss → First k (s ∷ ss)
+      here : (l : Locator) (b : Bool) → s.holding ≡ Some l → same_address x l.address ≡ b → First (cond (awaits listed s) (k + 1) k) ss → First k (s ∷ ss)
       here l true e same rest = first l k (same_equal x l.address same) (rw (e, same)) (rw (e, same))
       here l false e same rest = passed (rw (e, same)) (rw (e, same)) rest
 
-      held : (h : Holding) → s.holding ≡ h → First (cond (awaits listed s) (k + 1) k) ss → First k (s ∷ ss)
-      held Empty e rest = passed (rw e) (rw e) rest
-      held (Held l) e rest = here l (same_address x l.address) e refl rest
+      held : (h : Option Locator) → s.holding ≡ h → First (cond (awaits listed s) (k + 1) k) ss → First k (s ∷ ss)
+      held None e rest = passed (rw e) (rw e) rest
+      held (Some l) e rest = here l (same_address x l.address) e refl rest
 
   -- what gets a check was DEPRECATED, and is listed
   pub record Awaited (ss : List Slot) : Type 0 where
-    pub deprecated : status_in x ss ≡ some Deprecated
+    pub deprecated : status_in x ss ≡ Some Deprecated
     pub is_listed_lem : is_listed x listed ≡ true
 
   deprecated_is : (t : Status) → is_deprecated t ≡ true → t ≡ Deprecated
@@ -97,38 +95,38 @@ module _ (x : Address) (listed : List ListedLocator) where
   deprecated_is Active q = cc
   deprecated_is Deprecated q = refl
 
-  pub check_awaited : (k j : ℕ) (ss : List Slot) → check_for x listed k ss ≡ some j → Awaited ss
+  pub check_awaited : (k j : ℕ) (ss : List Slot) → check_for x listed k ss ≡ Some j → Awaited ss
   check_awaited k j ss p = go (first_in k ss)
     where
-      given : (b : Bool) (i : ℕ) → cond b (some i) none ≡ some j → b ≡ true
+      given : (b : Bool) (i : ℕ) → cond b (Some i) None ≡ Some j → b ≡ true
       given true i q = refl
       given false i q = cc
 
       go : First k ss → Awaited ss
       go (nowhere u q) = let z : ◌≡◌ {A = ℕ} 0 1 = cc in absurd (omega arith)
       go (first l i e u q) =
-          let both = given (awaits_held listed (Held l)) i (sym q ∙ p) in
+          let both = given (awaits_held listed (Some l)) i (sym q ∙ p) in
           record {
-            deprecated = u ∙ ap some (deprecated_is l.status (and_true_left (is_deprecated l.status) (is_listed l.address listed) both));
+            deprecated = u ∙ ap Some (deprecated_is l.status (and_true_left (is_deprecated l.status) (is_listed l.address listed) both));
             is_listed_lem = rw e (and_true_right (is_deprecated l.status) (is_listed l.address listed) both);
           }
 
   -- a listed address that gets none was not DEPRECATED
-  pub check_none : (k : ℕ) (ss : List Slot) → is_listed x listed ≡ true → check_for x listed k ss ≡ none → live (status_in x ss) ≡ status_in x ss
+  pub check_none : (k : ℕ) (ss : List Slot) → is_listed x listed ≡ true → check_for x listed k ss ≡ None → live (status_in x ss) ≡ status_in x ss
   check_none k ss l p = go (first_in k ss)
     where
-      not_given : (b : Bool) (i : ℕ) → cond b (some i) none ≡ none → b ≡ false
+      not_given : (b : Bool) (i : ℕ) → cond b (Some i) None ≡ None → b ≡ false
       not_given true i q = cc
       not_given false i q = refl
 
-      status : (t : Status) → (is_deprecated t && true) ≡ false → live (some t) ≡ some t
+      status : (t : Status) → (is_deprecated t && true) ≡ false → live (Some t) ≡ Some t
       status (Unverified c) q = refl
       status Active q = refl
       status Deprecated q = cc
 
       go : First k ss → live (status_in x ss) ≡ status_in x ss
       go (nowhere u q) = rw u
-      go (first m i e u q) = rw u (status m.status (rw (← e, l) at (not_given (awaits_held listed (Held m)) i (sym q ∙ p))))
+      go (first m i e u q) = rw u (status m.status (rw (← e, l) at (not_given (awaits_held listed (Some m)) i (sym q ∙ p))))
 
 -- ---- how many
 module _ (listed : List ListedLocator) (time next : ℕ) (nonces : List ℕ) where
@@ -152,25 +150,22 @@ count_most listed (s ∷ ss) = go (awaits listed s) (count_most listed ss)
     go false p = omega arith
 
 -- offered nonces that are all different: those of checks i and j
-differ_from : (n : ℕ) (ns : List ℕ) (j : ℕ) → records.some (eqb n) ns ≡ false → j < length ns → eqb n (get_or ns j 0) ≡ false
-unfolding records.some
+differ_from : (n : ℕ) (ns : List ℕ) (j : ℕ) → list_any (eqb n) ns ≡ false → j < length ns → eqb n (get_or ns j 0) ≡ false
 differ_from n [] j p h = absurd (omega arith)
-differ_from n (m ∷ ns) zero p h = or_false_left (eqb n m) (records.some (eqb n) ns) p
-differ_from n (m ∷ ns) (suc j) p h = differ_from n ns j (or_false_right (eqb n m) (records.some (eqb n) ns) p) (omega arith)
+differ_from n (m ∷ ns) zero p h = or_false_left (eqb n m) (list_any (eqb n) ns) p
+differ_from n (m ∷ ns) (suc j) p h = differ_from n ns j (or_false_right (eqb n m) (list_any (eqb n) ns) p) (omega arith)
 
 differ : (ns : List ℕ) (i j : ℕ) → twice ns ≡ false → i < j → j < length ns → eqb (get_or ns i 0) (get_or ns j 0) ≡ false
-unfolding twice
 differ [] i j p h l = absurd (omega arith)
 differ (n ∷ ns) i zero p h l = absurd (omega arith)
-differ (n ∷ ns) zero (suc j) p h l = differ_from n ns j (or_false_left (records.some (eqb n) ns) (twice ns) p) (omega arith)
-differ (n ∷ ns) (suc i) (suc j) p h l = differ ns i j (or_false_right (records.some (eqb n) ns) (twice ns) p) (omega arith) (omega arith)
+differ (n ∷ ns) zero (suc j) p h l = differ_from n ns j (or_false_left (list_any (eqb n) ns) (twice ns) p) (omega arith)
+differ (n ∷ ns) (suc i) (suc j) p h l = differ ns i j (or_false_right (list_any (eqb n) ns) (twice ns) p) (omega arith) (omega arith)
 
 -- an offered nonce is not outstanding
-lacks_offered : (ss : List Slot) (ns : List ℕ) (j : ℕ) → records.some (is_outstanding ss) ns ≡ false → j < length ns → All (Lacks (get_or ns j 0)) ss
-unfolding records.some
+lacks_offered : (ss : List Slot) (ns : List ℕ) (j : ℕ) → list_any (is_outstanding ss) ns ≡ false → j < length ns → All (Lacks (get_or ns j 0)) ss
 lacks_offered ss [] j p h = absurd (omega arith)
-lacks_offered ss (n ∷ ns) zero p h = none_all (held_as (is_nonce n)) ss (or_false_left (is_outstanding ss n) (records.some (is_outstanding ss) ns) p)
-lacks_offered ss (n ∷ ns) (suc j) p h = lacks_offered ss ns j (or_false_right (is_outstanding ss n) (records.some (is_outstanding ss) ns) p) (omega arith)
+lacks_offered ss (n ∷ ns) zero p h = none_all (held_as (is_nonce n)) ss (or_false_left (is_outstanding ss n) (list_any (is_outstanding ss) ns) p)
+lacks_offered ss (n ∷ ns) (suc j) p h = lacks_offered ss ns j (or_false_right (is_outstanding ss n) (list_any (is_outstanding ss) ns) p) (omega arith)
 
 -- the nonces that refusal 10 lets pass, as facts about some slots
 pub record Offered (nonces : List ℕ) (ss : List Slot) : Type 0 where
@@ -179,8 +174,8 @@ pub record Offered (nonces : List ℕ) (ss : List Slot) : Type 0 where
 
 pub offered : (nonces : List ℕ) (ss : List Slot) → refusal10 nonces ss ≡ false → Offered nonces ss
 offered nonces ss p = record {
-  apart = λ i j. differ nonces i j (or_false_left (twice nonces) (records.some (is_outstanding ss) nonces) p);
-  fresh = λ j. lacks_offered ss nonces j (or_false_right (twice nonces) (records.some (is_outstanding ss) nonces) p);
+  apart = λ i j. differ nonces i j (or_false_left (twice nonces) (list_any (is_outstanding ss) nonces) p);
+  fresh = λ j. lacks_offered ss nonces j (or_false_right (twice nonces) (list_any (is_outstanding ss) nonces) p);
 }
 
 -- ---- slots with new checks do not clash
@@ -195,20 +190,20 @@ module _ (time next : ℕ) (nonces : List ℕ) where
   unfolding clash
   check_clear h s k p q = go h.holding s.holding p q
     where
-      go : (h s : Holding) → clash_held s h ≡ false → found_as (is_nonce (get_or nonces k 0)) (status_of h) ≡ false →
+      go : (h s : Option Locator) → clash_held s h ≡ false → found_as (is_nonce (get_or nonces k 0)) (status_of h) ≡ false →
           clash_held (with_check time next nonces k (record { holding = s })).holding h ≡ false
-      go h Empty p q = refl
-      go Empty (Held m) p q = refl
-      go (Held l) (Held m) p q =
+      go h None p q = refl
+      go None (Some m) p q = refl
+      go (Some l) (Some m) p q =
           rw (or_false_left (same_address m.address l.address) (same_nonce m.status l.status) p, nonce_clear l.status k q)
 
   -- a slot with check k has no other check's nonce
   other_nonce : (s : Slot) (k j : ℕ) → eqb (get_or nonces j 0) (get_or nonces k 0) ≡ false → Lacks (get_or nonces j 0) (with_check time next nonces k s)
   other_nonce s k j p = go s.holding
     where
-      go : (h : Holding) → Lacks (get_or nonces j 0) (with_check time next nonces k (record { holding = h }))
-      go Empty = refl
-      go (Held l) = p
+      go : (h : Option Locator) → Lacks (get_or nonces j 0) (with_check time next nonces k (record { holding = h }))
+      go None = refl
+      go (Some l) = p
 
   module _ (listed : List ListedLocator) where
     -- a slot stays apart from those that get checks, whose nonces it has not

@@ -2,24 +2,20 @@
 use Prim.Native.Nat.{ℕ}
 use mathlib.Core.Path.{◌≡◌, refl, ap}
 use mathlib.Core.Bool.{Bool, true, false}
-use mathlib.Core.Option.{none}
 use mathlib.Core.List.{List, [], ◌∷◌, map}
-use Rattle.octets.specs.Records as records
 use Rattle.boolean.proofs.Laws.{or_false_left, or_false_right}
 use Rattle.address.specs.declared.Address.{Address}
 use Rattle.address.specs.Rules.{same_address}
 use Rattle.locator.specs.declared.ListedLocator.{ListedLocator}
 use Rattle.slot.specs.declared.Locator.{Locator}
-use Rattle.slot.specs.declared.Holding.{Holding}
-use Rattle.slot.specs.declared.Holding.TheVariants.{Empty, Held}
 use Rattle.slot.specs.declared.Slot.{Slot}
 use Rattle.slot.specs.Found.{on_held, on_locator}
 use Rattle.readdress.specs.Steps.{entry_for, renew, renew_all, is_listed, retire, retire_all}
 use Rattle.readdress.proofs.Settled.{renewed_address}
+use Rattle.std.specs.Prelude.{None, Option, Some}
 
 -- a set that does not list the address has no entry for it
-none_for : (x : Address) (listed : List ListedLocator) → is_listed x listed ≡ false → entry_for x listed ≡ none
-unfolding entry_for records.some
+none_for : (x : Address) (listed : List ListedLocator) → is_listed x listed ≡ false → entry_for x listed ≡ None
 none_for x [] h = refl
 none_for x (e ∷ es) h =
     let here = or_false_left (same_address x e.address) (is_listed x es) h in
@@ -39,8 +35,8 @@ module _ (time : ℕ) (listed : List ListedLocator) where
   either_order [] = refl
   either_order (s ∷ ss) = go s.holding (either_order ss)
     where
-      go : (h : Holding) → map (on_locator (retire listed)) (map (on_locator (renew time listed)) ss) ≡ map (on_locator (renew time listed)) (map (on_locator (retire listed)) ss) →
+      go : (h : Option Locator) → map (on_locator (retire listed)) (map (on_locator (renew time listed)) ss) ≡ map (on_locator (renew time listed)) (map (on_locator (retire listed)) ss) →
           record { holding = on_held (retire listed) (on_held (renew time listed) h) } ∷ map (on_locator (retire listed)) (map (on_locator (renew time listed)) ss)
           ≡ record { holding = on_held (renew time listed) (on_held (retire listed) h) } ∷ map (on_locator (renew time listed)) (map (on_locator (retire listed)) ss)
-      go Empty e = ap (λ (r : List Slot). record { holding = Empty } ∷ r) e
-      go (Held l) e = rw (locator_either l, e)
+      go None e = ap (λ (r : List Slot). record { holding = None } ∷ r) e
+      go (Some l) e = rw (locator_either l, e)

@@ -1,9 +1,8 @@
 -- A Move as a whole: what it keeps of slots that do not clash and of the preference, and that it leaves every listed address ACTIVE or UNVERIFIED.
 -- Assumes nothing.
 use mathlib.Core.Path.{◌≡◌, refl, ◌∙◌, sym, ap}
-use mathlib.Core.Bool.{Bool, true, false, cond}
-use mathlib.Core.Option.{Option, none, some, map}
-use mathlib.Core.List.{List, [], ◌∷◌}
+use mathlib.Core.Bool.{Bool, true, false}
+use mathlib.Core.List.{List}
 use Prim.Native.Nat.{ℕ, ◌≤◌, ◌<◌}
 use lib.Dec.{eqb}
 use lib.ListN.{get_or, length}
@@ -21,14 +20,10 @@ use Rattle.slots.proofs.Each.{Pairs}
 use Rattle.slots.proofs.Statuses.{is_found, held_found}
 use Rattle.path.proofs.Lowest.{lowest_within}
 use Rattle.path.specs.Choices.{lowest}
-use Rattle.path.specs.declared.Choice.{Choice}
-use Rattle.path.specs.declared.Choice.TheVariants.{Nowhere, Chosen}
-use Rattle.path.specs.declared.Preference.{Preference}
-use Rattle.path.specs.declared.Preference.TheVariants.{NoPreference, Prefers}
 use Rattle.reply_form.specs.Replies.{nonce_count}
 use Rattle.readdress.specs.Checks.{check_count, refusal10, checked_by, check_for}
 use Rattle.readdress.specs.Moves.{settled, placed, new_slots, new_preference}
-use Rattle.readdress.specs.Steps.{is_listed, place_all, dropped, marked_slot, prefer}
+use Rattle.readdress.specs.Steps.{is_listed, place_all, dropped, marked_entry, marked_slot, prefer}
 use Rattle.readdress.specs.declared.Placement.{Placement}
 use Rattle.readdress.proofs.Live.{live, is_dead}
 use Rattle.readdress.proofs.Settled.{settled_status, settled_length, settled_apart, settled_without}
@@ -36,17 +31,16 @@ use Rattle.readdress.proofs.Placed.{entries_keep, placed_apart, placed_length, p
 use Rattle.readdress.proofs.Checked.{checked_length, count_most, offered, checked_apart, checked_status, check_none}
 use Rattle.readdress.proofs.Turned.{move_inactive}
 use Rattle.readdress.proofs.Room.{Ready, settled_sorted, Rooms, rooms, all_held, each_listed}
+use Rattle.std.specs.Prelude.{None, Option, Some, option_map, option_and_then}
 
-marked_within : (listed : List ListedLocator) (ss : List Slot) (n : ℕ) → marked_slot listed ss ≡ Chosen n → n < length ss
-unfolding marked_slot
-marked_within [] ss n p = let z : ◌≡◌ {A = ℕ} 0 1 = cc in absurd (omega arith)
-marked_within (e ∷ es) ss n p = go e.preferred (marked_within es ss n) p
+marked_within : (listed : List ListedLocator) (ss : List Slot) (n : ℕ) → marked_slot listed ss ≡ Some n → n < length ss
+marked_within listed ss n p = go (marked_entry listed) p
   where
-    go : (b : Bool) → (marked_slot es ss ≡ Chosen n → n < length ss) → cond b (lowest (holds e.address) 0 ss) (marked_slot es ss) ≡ Chosen n → n < length ss
-    go true ih q = lowest_within (holds e.address) ss n q
-    go false ih q = ih q
+    go : (o : Option ListedLocator) → option_and_then (λ (e : ListedLocator). lowest (holds e.address) 0 ss) o ≡ Some n → n < length ss
+    go None q = let z : ◌≡◌ {A = ℕ} 0 1 = cc in absurd (omega arith)
+    go (Some e) q = lowest_within (holds e.address) ss n q
 
-module _ (time : ℕ) (differs : Bool) (e : EchoResponse) (listed : List ListedLocator) (p : Preference) (ss : List Slot) (whole : length ss ≡ slot_count) where
+module _ (time : ℕ) (differs : Bool) (e : EchoResponse) (listed : List ListedLocator) (p : Option ℕ) (ss : List Slot) (whole : length ss ≡ slot_count) where
   abbrev before : Placement
   before = record { slots = settled time differs e listed ss; preferred = p }
 
@@ -59,21 +53,21 @@ module _ (time : ℕ) (differs : Bool) (e : EchoResponse) (listed : List ListedL
   checks_most = let m = count_most listed (placed time differs e listed p ss).slots in let n = placement_length in omega arith
 
   -- what holds of no preference, of a preference for a slot that there is, and of the preference before, holds of the preference after
-  pub preference_kept : (P : Preference → Type 0) → P NoPreference → ((n : ℕ) → n < slot_count → P (Prefers n)) → P p →
+  pub preference_kept : (P : Option ℕ → Type 0) → P None → ((n : ℕ) → n < slot_count → P (Some n)) → P p →
       P (new_preference listed (placed time differs e listed p ss))
   unfolding placed
   preference_kept P unset within kept = marked (marked_slot listed (place_all time listed listed before).slots) refl
     where
-      drop : (n : ℕ) (q : Preference) → P q → P (dropped n q)
-      drop n NoPreference r = r
-      drop n (Prefers m) r = cond_all P (eqb n m) NoPreference (Prefers m) (λ u. unset) (λ u. r)
+      drop : (n : ℕ) (q : Option ℕ) → P q → P (dropped n q)
+      drop n None r = r
+      drop n (Some m) r = cond_all P (eqb n m) None (Some m) (λ u. unset) (λ u. r)
 
       five : P (place_all time listed listed before).preferred
       five = entries_keep time listed (λ (q : Placement). P q.preferred) (λ f q r h n found. drop n q.preferred r) listed before kept
 
-      marked : (c : Choice) → marked_slot listed (place_all time listed listed before).slots ≡ c → P (prefer c (place_all time listed listed before).preferred)
-      marked Nowhere u = five
-      marked (Chosen n) u =
+      marked : (c : Option ℕ) → marked_slot listed (place_all time listed listed before).slots ≡ c → P (prefer c (place_all time listed listed before).preferred)
+      marked None u = five
+      marked (Some n) u =
           let m = marked_within listed (place_all time listed listed before).slots n u in
           let l = placement_length in
           within n (omega arith)
@@ -120,25 +114,25 @@ module _ (time : ℕ) (differs : Bool) (e : EchoResponse) (listed : List ListedL
           five = (place_all time listed listed before).slots
 
           found : (o : Option Status) → live o ≡ o → is_found o ≡ true → is_dead o ≡ false
-          found none q r = sym r
-          found (some (Unverified k)) q r = refl
-          found (some Active) q r = refl
-          found (some Deprecated) q r = cc
+          found None q r = sym r
+          found (Some (Unverified k)) q r = refl
+          found (Some Active) q r = refl
+          found (Some Deprecated) q r = cc
 
-          go : (c : Option ℕ) → (c ≡ none → live (status_in x five) ≡ status_in x five) → is_found (status_in x five) ≡ true →
-              is_dead (or_else (map (checked_by time next nonces) c) (status_in x five)) ≡ false
-          go none q r = found (status_in x five) (q refl) r
-          go (some j) q r = refl
+          go : (c : Option ℕ) → (c ≡ None → live (status_in x five) ≡ status_in x five) → is_found (status_in x five) ≡ true →
+              is_dead (or_else (option_map (checked_by time next nonces) c) (status_in x five)) ≡ false
+          go None q r = found (status_in x five) (q refl) r
+          go (Some j) q r = refl
 
       -- one that is neither ACTIVE nor UNVERIFIED after step 4 is UNVERIFIED: "DEPRECATED turns UNVERIFIED with a new check", and a new one "is UNVERIFIED"
-      pub listed_unverified : (x : Address) → is_listed x listed ≡ true → live (map (settled_status (is_listed x listed) differs e) (status_in x ss)) ≡ none →
+      pub listed_unverified : (x : Address) → is_listed x listed ≡ true → live (option_map (settled_status (is_listed x listed) differs e) (status_in x ss)) ≡ None →
           found_as is_unverified (status_in x (new_slots listed time next nonces (placed time differs e listed p ss))) ≡ true
       listed_unverified x l q =
           go (status_in x (new_slots listed time next nonces (placed time differs e listed p ss))) (listed_live x l)
           (move_inactive x time differs e listed p next nonces ss q)
         where
           go : (o : Option Status) → is_dead o ≡ false → found_as is_active o ≡ false → found_as is_unverified o ≡ true
-          go none r t = sym r
-          go (some (Unverified k)) r t = refl
-          go (some Active) r t = sym t
-          go (some Deprecated) r t = sym r
+          go None r t = sym r
+          go (Some (Unverified k)) r t = refl
+          go (Some Active) r t = sym t
+          go (Some Deprecated) r t = sym r

@@ -1,8 +1,6 @@
 -- Step 5: what it makes of the status of an address, and what it keeps of slots that do not clash. Assumes nothing.
 use mathlib.Core.Path.{◌≡◌, refl, ◌∙◌, sym, ap}
 use mathlib.Core.Bool.{Bool, true, false, cond, ◌&&◌, not}
-use mathlib.Core.Option
-use mathlib.Core.Option.{Option, none, some}
 use mathlib.Core.List.{List, [], ◌∷◌, map}
 use Prim.Native.Nat.{ℕ, zero, suc}
 use lib.ListN.{set, length, length-set}
@@ -15,8 +13,6 @@ use Rattle.locator.specs.declared.ListedLocator.{ListedLocator}
 use Rattle.slot.proofs.Settled.{Clear, Lacks, clear_turned}
 use Rattle.slot.specs.Clashes.{clash_held, clash}
 use Rattle.slot.specs.Found.{on_held, on_locator, is_deprecated, holds_held, holds, status_held, or_else, status_in, slot_at}
-use Rattle.slot.specs.declared.Holding.{Holding}
-use Rattle.slot.specs.declared.Holding.TheVariants.{Empty, Held}
 use Rattle.slot.specs.declared.Locator.{Locator}
 use Rattle.slot.specs.declared.Slot.{Slot}
 use Rattle.slot.specs.declared.Status.{Status}
@@ -25,15 +21,13 @@ use Rattle.slots.proofs.Each.{All, Pairs, none_all, all_imply, all_set, pairs_se
 use Rattle.slots.proofs.Statuses.{status_passed, unheld_none}
 use Rattle.path.proofs.Lowest.{lowest_fit}
 use Rattle.path.specs.Choices.{lowest}
-use Rattle.path.specs.declared.Choice.{Choice}
-use Rattle.path.specs.declared.Choice.TheVariants.{Nowhere, Chosen}
-use Rattle.path.specs.declared.Preference.{Preference}
 use Rattle.readdress.specs.Echoes.{verify_all}
 use Rattle.readdress.specs.Moves.{settled, placed}
 use Rattle.readdress.specs.Steps.{deprecate, rebind, renew_all, is_listed, retire, retire_all, free_held, is_free, entered, place_at, place, is_held, place_other, place_all}
 use Rattle.readdress.specs.declared.Placement.{Placement}
 use Rattle.readdress.proofs.Live.{live}
 use Rattle.readdress.proofs.Settled.{settled_status, settled_status_lem}
+use Rattle.std.specs.Prelude.{option_map, None, Option, Some}
 
 -- ---- placing in general
 -- a slot that takes an address without a check does not clash with one that does not hold the address
@@ -41,27 +35,26 @@ pub entered_clear : (time : ℕ) (e : ListedLocator) (s : Slot) → holds e.addr
 unfolding clash
 entered_clear time e s p = go s.holding p
   where
-    go : (h : Holding) → holds_held e.address h ≡ false → clash_held (entered time e).holding h ≡ false
-    go Empty p = refl
-    go (Held l) p = rw p
+    go : (h : Option Locator) → holds_held e.address h ≡ false → clash_held (entered time e).holding h ≡ false
+    go None p = refl
+    go (Some l) p = rw p
 
 module _ (time : ℕ) (listed : List ListedLocator) where
   -- what holds before an entry, and holds where the entry takes the slot that was found for it, holds after the entry
   pub entry_keeps : (P : Placement → Type 0) (e : ListedLocator) (p : Placement) →
-      (is_held e.address p.slots ≡ false → (n : ℕ) → lowest (is_free listed) 0 p.slots ≡ Chosen n → P (place_at time e (Chosen n) p)) → P p →
+      (is_held e.address p.slots ≡ false → (n : ℕ) → lowest (is_free listed) 0 p.slots ≡ Some n → P (place_at time e (Some n) p)) → P p →
       P (place_other time listed e p)
   entry_keeps P e p keep q =
       cond_all P (is_held e.address p.slots) p (place time listed e p) (λ h. q) (λ h. go h (lowest (is_free listed) 0 p.slots) refl)
     where
-      go : is_held e.address p.slots ≡ false → (c : Choice) → lowest (is_free listed) 0 p.slots ≡ c → P (place_at time e c p)
-      go h Nowhere r = q
-      go h (Chosen n) r = keep h n r
+      go : is_held e.address p.slots ≡ false → (c : Option ℕ) → lowest (is_free listed) 0 p.slots ≡ c → P (place_at time e c p)
+      go h None r = q
+      go h (Some n) r = keep h n r
 
   -- what each entry keeps, step 5 keeps
   pub entries_keep : (P : Placement → Type 0) →
-      ((e : ListedLocator) (p : Placement) → P p → is_held e.address p.slots ≡ false → (n : ℕ) → lowest (is_free listed) 0 p.slots ≡ Chosen n →
-      P (place_at time e (Chosen n) p)) → (es : List ListedLocator) (p : Placement) → P p → P (place_all time listed es p)
-  unfolding place_all
+      ((e : ListedLocator) (p : Placement) → P p → is_held e.address p.slots ≡ false → (n : ℕ) → lowest (is_free listed) 0 p.slots ≡ Some n →
+      P (place_at time e (Some n) p)) → (es : List ListedLocator) (p : Placement) → P p → P (place_all time listed es p)
   entries_keep P keep [] p q = q
   entries_keep P keep (e ∷ es) p q = entries_keep P keep es (place_other time listed e p) (entry_keeps P e p (keep e p q) q)
 
@@ -93,18 +86,18 @@ free_other x listed s p q = held s.holding q
         let w : not true ≡ true = rw r at u in sym w
     same l false e q = refl
 
-    held : (h : Holding) → free_held listed h ≡ true → holds_held x h ≡ false
-    held Empty q = refl
-    held (Held l) q = same l (same_address x l.address) refl q
+    held : (h : Option Locator) → free_held listed h ≡ true → holds_held x h ≡ false
+    held None q = refl
+    held (Some l) q = same l (same_address x l.address) refl q
 
 -- an address that is listed: no slot that holds it is taken, and a slot that it takes is DEPRECATED until its check is given out
 module _ (x : Address) (time : ℕ) (listed : List ListedLocator) where
-  front_live : (e : ListedLocator) (o : Option Status) (b : Bool) → same_address x e.address ≡ b → (b ≡ true → live o ≡ none) →
-      live (or_else (cond b (some Deprecated) none) o) ≡ live o
+  front_live : (e : ListedLocator) (o : Option Status) (b : Bool) → same_address x e.address ≡ b → (b ≡ true → live o ≡ None) →
+      live (or_else (cond b (Some Deprecated) None) o) ≡ live o
   front_live e o true p h = sym (h refl)
   front_live e o false p h = refl
 
-  set_live : (e : ListedLocator) (ss : List Slot) (n : ℕ) → holds x (slot_at n ss) ≡ false → (same_address x e.address ≡ true → live (status_in x ss) ≡ none) →
+  set_live : (e : ListedLocator) (ss : List Slot) (n : ℕ) → holds x (slot_at n ss) ≡ false → (same_address x e.address ≡ true → live (status_in x ss) ≡ None) →
       live (status_in x (set ss n (entered time e))) ≡ live (status_in x ss)
   unfolding status_in
   set_live e [] n p h = refl
@@ -112,10 +105,10 @@ module _ (x : Address) (time : ℕ) (listed : List ListedLocator) where
       front_live e (status_in x ss) (same_address x e.address) refl (λ q. sym (ap live (status_passed x s ss p)) ∙ h q) ∙ sym (ap live (status_passed x s ss p))
   set_live e (s ∷ ss) (suc n) p h = go (λ k. set_live e ss n p k) (status_held x s.holding) refl
     where
-      go : ((same_address x e.address ≡ true → live (status_in x ss) ≡ none) → live (status_in x (set ss n (entered time e))) ≡ live (status_in x ss)) →
+      go : ((same_address x e.address ≡ true → live (status_in x ss) ≡ None) → live (status_in x (set ss n (entered time e))) ≡ live (status_in x ss)) →
           (o : Option Status) → status_held x s.holding ≡ o → live (or_else o (status_in x (set ss n (entered time e)))) ≡ live (or_else o (status_in x ss))
-      go ih none q = ih (λ r. rw q at (h r))
-      go ih (some t) q = refl
+      go ih None q = ih (λ r. rw q at (h r))
+      go ih (Some t) q = refl
 
   placed_live : (es : List ListedLocator) (p : Placement) → is_listed x listed ≡ true →
       live (status_in x (place_all time listed es p).slots) ≡ live (status_in x p.slots)
@@ -129,21 +122,21 @@ module _ (x : Address) (time : ℕ) (listed : List ListedLocator) where
 
   -- an address that is not listed: each slot that holds it is DEPRECATED
   abbrev Dead : Slot → Type 0
-  Dead s = live (status_held x s.holding) ≡ none
+  Dead s = live (status_held x s.holding) ≡ None
 
-  dead_live : (ss : List Slot) → All Dead ss → live (status_in x ss) ≡ none
+  dead_live : (ss : List Slot) → All Dead ss → live (status_in x ss) ≡ None
   unfolding status_in All
   dead_live [] p = refl
   dead_live (s ∷ ss) p = go (dead_live ss p.1) (status_held x s.holding) p.0
     where
-      go : live (status_in x ss) ≡ none → (o : Option Status) → live o ≡ none → live (or_else o (status_in x ss)) ≡ none
-      go ih none d = ih
-      go ih (some t) d = d
+      go : live (status_in x ss) ≡ None → (o : Option Status) → live o ≡ None → live (or_else o (status_in x ss)) ≡ None
+      go ih None d = ih
+      go ih (Some t) d = d
 
   entered_dead : (e : ListedLocator) → Dead (entered time e)
   entered_dead e = go (same_address x e.address)
     where
-      go : (b : Bool) → live (cond b (some Deprecated) none) ≡ none
+      go : (b : Bool) → live (cond b (Some Deprecated) None) ≡ None
       go true = refl
       go false = refl
 
@@ -157,23 +150,23 @@ module _ (x : Address) (time : ℕ) (listed : List ListedLocator) where
   retired_dead (s ∷ ss) l = (held s.holding, retired_dead ss l)
     where
       same : (m : Locator) (b c : Bool) → same_address x m.address ≡ b → is_listed m.address listed ≡ c →
-          live (status_held x (Held (cond c m (deprecate m)))) ≡ none
+          live (status_held x (Some (cond c m (deprecate m)))) ≡ None
       same m true true p q = apart (sym q ∙ rw (same_equal x m.address p) at l)
       same m true false p q = rw p
       same m false true p q = rw p
       same m false false p q = rw p
 
-      held : (h : Holding) → live (status_held x (on_held (retire listed) h)) ≡ none
-      held Empty = refl
-      held (Held m) = same m (same_address x m.address) (is_listed m.address listed) refl refl
+      held : (h : Option Locator) → live (status_held x (on_held (retire listed) h)) ≡ None
+      held None = refl
+      held (Some m) = same m (same_address x m.address) (is_listed m.address listed) refl refl
 
-pub unlisted_none : (differs : Bool) (e : EchoResponse) (o : Option Status) → live (Option.map (settled_status false differs e) o) ≡ none
-unlisted_none differs e none = refl
-unlisted_none differs e (some s) = refl
+pub unlisted_none : (differs : Bool) (e : EchoResponse) (o : Option Status) → live (option_map (settled_status false differs e) o) ≡ None
+unlisted_none differs e None = refl
+unlisted_none differs e (Some s) = refl
 
 -- steps 1 to 5: what is live of an address
-pub placed_status : (x : Address) (time : ℕ) (differs : Bool) (e : EchoResponse) (listed : List ListedLocator) (p : Preference) (ss : List Slot) →
-    live (status_in x (placed time differs e listed p ss).slots) ≡ live (Option.map (settled_status (is_listed x listed) differs e) (status_in x ss))
+pub placed_status : (x : Address) (time : ℕ) (differs : Bool) (e : EchoResponse) (listed : List ListedLocator) (p : Option ℕ) (ss : List Slot) →
+    live (status_in x (placed time differs e listed p ss).slots) ≡ live (option_map (settled_status (is_listed x listed) differs e) (status_in x ss))
 unfolding placed settled retire_all
 placed_status x time differs e listed p ss = go (is_listed x listed) refl
   where
@@ -181,7 +174,7 @@ placed_status x time differs e listed p ss = go (is_listed x listed) refl
     before = record { slots = settled time differs e listed ss; preferred = p }
 
     go : (b : Bool) → is_listed x listed ≡ b →
-        live (status_in x (place_all time listed listed before).slots) ≡ live (Option.map (settled_status (is_listed x listed) differs e) (status_in x ss))
+        live (status_in x (place_all time listed listed before).slots) ≡ live (option_map (settled_status (is_listed x listed) differs e) (status_in x ss))
     go true l = placed_live x time listed listed before l ∙ ap live (settled_status_lem x time differs e listed ss)
     go false l =
         dead_live x time listed (place_all time listed listed before).slots

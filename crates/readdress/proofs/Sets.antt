@@ -1,14 +1,12 @@
 -- A loop over the entries of a set, which are the first `count` of an array of eight. It leaves at the first entry that passes a test. Assumes nothing.
 use Prim.Native.Nat.{ℕ, ◌+◌, ◌≤◌, ◌<◌}
-use mathlib.Core.Path.{◌≡◌, refl, ◌∙◌}
+use mathlib.Core.Path.{◌≡◌, ◌∙◌}
 use mathlib.Core.Bool.{Bool, true, false, cond}
 use mathlib.Core.List.{List, [], ◌∷◌}
 use lib.ListN.{length, get_or, take, drop, length-take, drop_of_length-le}
 use lib.Seq.{drop-cons, get_or-take}
 use native.Mathlib.Numerals.{add-one}
 use native.Mathlib.Omega.{arith}
-use Rattle.octets.specs.Records.{some}
-use Rattle.slots.proofs.Loops.{or_cond}
 
 module _ {A : Type 0} where
   -- the entry at j comes first of those from j on
@@ -52,8 +50,3 @@ module _ {A R : Type 0} (over : List A → R) (test : A → Bool) (found : A →
     spent = λ listed count j whole h p. rw (p, entries_spent listed count j h, stops);
     end = λ listed count j whole e h p. rw (p, entries_end listed count j e h, stops);
   }
-
--- whether some entry passes a test
-pub some_entry : {A : Type 0} (test : A → Bool) → SetLoop (λ xs. some test xs) test (λ x. true) false
-unfolding some
-some_entry test = set_loop (λ xs. some test xs) test (λ x. true) false refl (λ x xs. or_cond (test x) (some test xs))

@@ -1,8 +1,6 @@
 -- Steps 1 to 4: what they make of the status of an address, and what they keep of slots that do not clash. Assumes nothing.
 use mathlib.Core.Path.{◌≡◌, refl, ◌∙◌}
 use mathlib.Core.Bool.{Bool, true, false, cond}
-use mathlib.Core.Option
-use mathlib.Core.Option.{Option, none, some}
 use mathlib.Core.Logic.{◌⊎◌, inl, inr}
 use mathlib.Core.List.{List, map}
 use Prim.Native.Nat.{ℕ}
@@ -22,32 +20,33 @@ use Rattle.slots.proofs.Statuses.{status_map}
 use Rattle.readdress.specs.Echoes.{answers, verify_locator, verify_all, verify_status}
 use Rattle.readdress.specs.Moves.{settled}
 use Rattle.readdress.specs.Steps.{deprecate, rebind, entry_for, renew_by, renew, renew_all, is_listed, retire, retire_all}
+use Rattle.std.specs.Prelude.{option_map, None, Option, Some}
 
 -- ---- the status of an address
 -- what they make of the status of an address that the set lists, or does not
 abbrev pub settled_status : (in_set differs : Bool) → EchoResponse → Status → Status
 settled_status in_set differs e s = cond in_set (cond differs Deprecated (verify_status e s)) Deprecated
 
-pub verified_status : (x : Address) (e : EchoResponse) (ss : List Slot) → status_in x (verify_all e ss) ≡ Option.map (verify_status e) (status_in x ss)
+pub verified_status : (x : Address) (e : EchoResponse) (ss : List Slot) → status_in x (verify_all e ss) ≡ option_map (verify_status e) (status_in x ss)
 unfolding verify_all
 verified_status x e ss = status_map (verify_locator e) (λ y. verify_status e) (λ l. refl) (λ l. refl) x ss
 
-map_same : (o : Option Status) → o ≡ Option.map (λ s. s) o
-map_same none = refl
-map_same (some s) = refl
+map_same : (o : Option Status) → o ≡ option_map (λ s. s) o
+map_same None = refl
+map_same (Some s) = refl
 
-rebound_status : (x : Address) (differs : Bool) (ss : List Slot) → status_in x (rebind differs ss) ≡ Option.map (λ s. cond differs Deprecated s) (status_in x ss)
+rebound_status : (x : Address) (differs : Bool) (ss : List Slot) → status_in x (rebind differs ss) ≡ option_map (λ s. cond differs Deprecated s) (status_in x ss)
 unfolding rebind
 rebound_status x true ss = status_map deprecate (λ y s. Deprecated) (λ l. refl) (λ l. refl) x ss
 rebound_status x false ss = map_same (status_in x ss)
 
 pub renewed_address : (time : ℕ) (o : Option ListedLocator) (l : Locator) → (renew_by time o l).address ≡ l.address
-renewed_address time none l = refl
-renewed_address time (some e) l = refl
+renewed_address time None l = refl
+renewed_address time (Some e) l = refl
 
 pub renewed_status : (time : ℕ) (o : Option ListedLocator) (l : Locator) → (renew_by time o l).status ≡ l.status
-renewed_status time none l = refl
-renewed_status time (some e) l = refl
+renewed_status time None l = refl
+renewed_status time (Some e) l = refl
 
 pub retired_address : (b : Bool) (l : Locator) → (cond b l (deprecate l)).address ≡ l.address
 retired_address true l = refl
@@ -58,13 +57,13 @@ retired_status true l = refl
 retired_status false l = refl
 
 map_settled : (in_set differs : Bool) (e : EchoResponse) (o : Option Status) →
-    Option.map (λ s. cond in_set s Deprecated) (Option.map (λ s. s) (Option.map (λ s. cond differs Deprecated s) (Option.map (verify_status e) o)))
-    ≡ Option.map (settled_status in_set differs e) o
-map_settled in_set differs e none = refl
-map_settled in_set differs e (some s) = refl
+    option_map (λ s. cond in_set s Deprecated) (option_map (λ s. s) (option_map (λ s. cond differs Deprecated s) (option_map (verify_status e) o)))
+    ≡ option_map (settled_status in_set differs e) o
+map_settled in_set differs e None = refl
+map_settled in_set differs e (Some s) = refl
 
 pub settled_status_lem : (x : Address) (time : ℕ) (differs : Bool) (e : EchoResponse) (listed : List ListedLocator) (ss : List Slot) →
-    status_in x (settled time differs e listed ss) ≡ Option.map (settled_status (is_listed x listed) differs e) (status_in x ss)
+    status_in x (settled time differs e listed ss) ≡ option_map (settled_status (is_listed x listed) differs e) (status_in x ss)
 unfolding settled retire_all renew_all
 settled_status_lem x time differs e listed ss =
     status_map (retire listed) (λ y s. cond (is_listed y listed) s Deprecated) (λ l. retired_address (is_listed l.address listed) l)

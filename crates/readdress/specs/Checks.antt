@@ -1,25 +1,22 @@
 -- New checks, and refusal 10. Step 3 says that DEPRECATED "turns UNVERIFIED with a new check", and step 5 that a new address "is UNVERIFIED"; the
 -- checks go "in slot order", over both, so they are given out when steps 1 to 5 are done.
-use Rattle.std.specs.Prelude.{ℕ, ◌+◌, Bool, false, cond, ◌&&◌, ◌||◌, List, [], ◌∷◌, eqb, get_or}
-use Rattle.std.proofs.Math.Option.{Option, none, some, map}
-use Rattle.octets.specs.Records as records
+use Rattle.std.specs.Prelude.{ℕ, ◌+◌, Bool, false, cond, ◌&&◌, ◌||◌, List, [], ◌∷◌, eqb, get_or, None, Option, Some, option_map}
+use Rattle.std.specs.List.{list_any}
 use Rattle.address.specs.declared.Address.{Address}
 use Rattle.locator.specs.declared.ListedLocator.{ListedLocator}
 use Rattle.slot.specs.declared.Check.{Check}
 use Rattle.slot.specs.declared.Status.{Status}
 use Rattle.slot.specs.declared.Status.TheVariants.{Unverified}
 use Rattle.slot.specs.declared.Locator.{Locator}
-use Rattle.slot.specs.declared.Holding.{Holding}
-use Rattle.slot.specs.declared.Holding.TheVariants.{Empty, Held}
 use Rattle.slot.specs.declared.Slot.{Slot}
 use Rattle.slot.specs.Found.{with_status, on_locator, holds, is_deprecated}
 use Rattle.slots.specs.Rules.{is_outstanding}
 use Rattle.readdress.specs.Steps.{is_listed}
 
 -- what is held after step 5 gets a new check: a listed address that is DEPRECATED
-abbrev pub awaits_held : List ListedLocator → Holding → Bool
-awaits_held listed Empty = false
-awaits_held listed (Held l) = is_deprecated l.status && is_listed l.address listed
+abbrev pub awaits_held : List ListedLocator → Option Locator → Bool
+awaits_held listed None = false
+awaits_held listed (Some l) = is_deprecated l.status && is_listed l.address listed
 
 -- the same, of a slot
 abbrev pub awaits : List ListedLocator → Slot → Bool
@@ -50,18 +47,18 @@ checked listed time next nonces k (s ∷ ss) =
 
 -- which of the new checks, from check k on, an address gets; none where it gets none
 unfoldable pub check_for : Address → List ListedLocator → (k : ℕ) → List Slot → Option ℕ
-check_for x listed k [] = none
-check_for x listed k (s ∷ ss) = cond (holds x s) (cond (awaits listed s) (some k) none) (check_for x listed (cond (awaits listed s) (k + 1) k) ss)
+check_for x listed k [] = None
+check_for x listed k (s ∷ ss) = cond (holds x s) (cond (awaits listed s) (Some k) None) (check_for x listed (cond (awaits listed s) (k + 1) k) ss)
 
 -- the nonce that its check takes
 abbrev pub nonce_taken : Address → List ListedLocator → (nonces : List ℕ) → List Slot → Option ℕ
-nonce_taken x listed nonces ss = map (λ (k : ℕ). get_or nonces k 0) (check_for x listed 0 ss)
+nonce_taken x listed nonces ss = option_map (λ (k : ℕ). get_or nonces k 0) (check_for x listed 0 ss)
 
 -- "distinct from each other": one of them stands among those after it
-unfoldable pub twice : List ℕ → Bool
+abbrev pub twice : List ℕ → Bool
 twice [] = false
-twice (n ∷ ns) = records.some (eqb n) ns || twice ns
+twice (n ∷ ns) = list_any (eqb n) ns || twice ns
 
 -- refusal 10: "the 8 offered nonces not distinct from each other and from those outstanding before"
 abbrev pub refusal10 : (nonces : List ℕ) → List Slot → Bool
-refusal10 nonces ss = twice nonces || records.some (is_outstanding ss) nonces
+refusal10 nonces ss = twice nonces || list_any (is_outstanding ss) nonces

@@ -2,12 +2,11 @@
 // Definitions, laws and the types that they are about. The code that meets them stands in the crates above.
 #![tactic(auto)]
 
-use path::Preference;
 use slot::{SLOT_COUNT, Slot};
 
 // The slots, and the slot among them that the peer prefers.
 #[derive(Clone, Copy)]
 pub struct Placement {
     pub slots: [Slot; SLOT_COUNT],
-    pub preferred: Preference,
+    pub preferred: Option<usize>,
 }

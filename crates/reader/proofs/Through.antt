@@ -9,60 +9,59 @@ use lib.ListN.{length}
 use borrow.Author.Tests.{lt-leb, le-leb, leb-true, leb-false}
 use denote.Ref.{Bor}
 use Rattle.boolean.proofs.Laws.{apart}
+use Rattle.std.specs.Prelude.{None, Ok, Err}
 use Rattle.refusal.specs.Table.{refusal}
-use Rattle.octets.specs.Records.{records, some}
+use Rattle.octets.specs.Records.{records}
 use Rattle.octets.proofs.Runs.{records_more, records_none}
 use Rattle.parameter.specs.declared.Parameter.{Parameter}
-use Rattle.parameter.specs.declared.Step.{Step}
-use Rattle.parameter.specs.declared.Step.TheVariants.{Found, End, Refused}
 use Rattle.parameter.specs.Parameters.{parameter_at, broken}
 use Rattle.frame.specs.Parameters.{falls_below, falls, ill_formed, ill_after}
 use Rattle.frame.proofs.Formed.{ill_first}
 use Rattle.reader.specs.declared.Cursor.{Cursor}
 use Rattle.reader.specs.declared.ParameterReader.{ParameterReader}
-use Rattle.reader.specs.Readers.{start, unless_falling, stands_at, place_after, advanced_of, fresh, stepped_of}
+use Rattle.reader.specs.Readers.{Step, found, start, unless_falling, stands_at, place_after, advanced_of, fresh, stepped_of}
 use Rattle.reader.specs.Through.{answers, after, after_found, well_formed, answers_to, answers_of}
 
 -- ---- what a reader has to answer, parameter by parameter
 module _ (s : List ℕ) (last : ℕ) where
-  to_none : answers_to s last [] ≡ End ∷ []
-  unfolding answers_to some falls
+  to_none : answers_to s last [] ≡ Ok None ∷ []
+  unfolding answers_to falls
   to_none = refl
 
   module _ (p : Parameter) (ps : List Parameter) where
-    to_ill : ill_after s last p ≡ true → answers_to s last (p ∷ ps) ≡ Refused (refusal 3) ∷ []
+    to_ill : ill_after s last p ≡ true → answers_to s last (p ∷ ps) ≡ Err (refusal 3) ∷ []
     unfolding answers_to well_formed
     to_ill h = rw (ill_first, h)
 
-    to_found : ill_after s last p ≡ false → answers_to s last (p ∷ ps) ≡ Found p ∷ answers_to s p.kind ps
+    to_found : ill_after s last p ≡ false → answers_to s last (p ∷ ps) ≡ found p ∷ answers_to s p.kind ps
     unfolding answers_to well_formed
     to_found h = rw (ill_first, h) (go (ill_formed s p.kind ps))
       where
         go : (b : Bool)
-            → cond b (Found p ∷ (map Found (well_formed s p.kind ps) ++ (Refused (refusal 3) ∷ []))) (Found p ∷ (map Found ps ++ (End ∷ [])))
-            ≡ Found p ∷ cond b (map Found (well_formed s p.kind ps) ++ (Refused (refusal 3) ∷ [])) (map Found ps ++ (End ∷ []))
+            → cond b (found p ∷ (map found (well_formed s p.kind ps) ++ (Err (refusal 3) ∷ []))) (found p ∷ (map found ps ++ (Ok None ∷ [])))
+            ≡ found p ∷ cond b (map found (well_formed s p.kind ps) ++ (Err (refusal 3) ∷ [])) (map found ps ++ (Ok None ∷ []))
         go true = refl
         go false = refl
 
 -- ---- what stands at a cursor
 -- by the tests b, of a broken parameter, and of a falling type
 module _ (last : ℕ) (p : Parameter) where
-  is_ill : (b : Bool) → (b || falls_below last p) ≡ true → unless_falling last (cond b (Refused (refusal 3)) (Found p)) ≡ Refused (refusal 3)
+  is_ill : (b : Bool) → (b || falls_below last p) ≡ true → unless_falling last (cond b (Err (refusal 3)) (found p)) ≡ Err (refusal 3)
   is_ill true e = refl
   is_ill false e = rw e
 
-  is_found : (b : Bool) → (b || falls_below last p) ≡ false → unless_falling last (cond b (Refused (refusal 3)) (Found p)) ≡ Found p
+  is_found : (b : Bool) → (b || falls_below last p) ≡ false → unless_falling last (cond b (Err (refusal 3)) (found p)) ≡ found p
   is_found true e = apart e
   is_found false e = rw e
 
 module _ (s : List ℕ) (c : Cursor) where
-  stands_end : length s ≤ c.at → stands_at s c ≡ End
+  stands_end : length s ≤ c.at → stands_at s c ≡ Ok None
   stands_end h = rw (le-leb _ _ h)
 
-  stands_ill : c.at < length s → ill_after s c.last (parameter_at s c.at) ≡ true → stands_at s c ≡ Refused (refusal 3)
+  stands_ill : c.at < length s → ill_after s c.last (parameter_at s c.at) ≡ true → stands_at s c ≡ Err (refusal 3)
   stands_ill h e = rw (lt-leb _ _ h) (is_ill c.last (parameter_at s c.at) (broken s (parameter_at s c.at)) e)
 
-  stands_found : c.at < length s → ill_after s c.last (parameter_at s c.at) ≡ false → stands_at s c ≡ Found (parameter_at s c.at)
+  stands_found : c.at < length s → ill_after s c.last (parameter_at s c.at) ≡ false → stands_at s c ≡ found (parameter_at s c.at)
   stands_found h e = rw (lt-leb _ _ h) (is_found c.last (parameter_at s c.at) (broken s (parameter_at s c.at)) e)
 
 -- ---- the answers of a reader, by what stands at its place
@@ -72,7 +71,7 @@ module _ (packet : Bor (List ℕ)) where
 
   -- the cursor past the parameter at a cursor
   abbrev past : Cursor → Cursor
-  past c = place_after c (Found (parameter_at packet.now c.at))
+  past c = place_after c (found (parameter_at packet.now c.at))
 
   -- the packet's parameters from a cursor on
   abbrev from : (steps : ℕ) → Cursor → List Parameter
@@ -90,13 +89,13 @@ module _ (packet : Bor (List ℕ)) where
       ap (λ (y : Step). y ∷ after_found y (answers n (reader_at (place_after c y)))) e ∙ ap (λ (ys : List Step). x ∷ ys) (h (answers n (reader_at (place_after c x))))
 
   -- a parameter is followed by the answers from past it
-  answers_more : (n : ℕ) (c : Cursor) (p : Parameter) → stands_at packet.now c ≡ Found p → answers (suc n) (reader_at c) ≡ Found p ∷ answers n (reader_at (place_after c (Found p)))
+  answers_more : (n : ℕ) (c : Cursor) (p : Parameter) → stands_at packet.now c ≡ found p → answers (suc n) (reader_at c) ≡ found p ∷ answers n (reader_at (place_after c (found p)))
   unfolding answers advanced_of
   answers_more n c p e = ap (λ (y : Step). y ∷ after_found y (answers n (reader_at (place_after c y)))) e
 
   right_end : (n steps : ℕ) (c : Cursor) → length packet.now ≤ c.at → Right n steps c
   right_end n steps c h =
-      answers_end n c End (λ more. refl) (stands_end packet.now c h)
+      answers_end n c (Ok None) (λ more. refl) (stands_end packet.now c h)
       ∙ rw (records_none (parameter_at packet.now) (λ (p : Parameter). p.next) (length packet.now) steps c.at h) (sym (to_none packet.now c.last))
 
   module _ (n steps : ℕ) (c : Cursor) (h : c.at < length packet.now) (enough : length packet.now - c.at ≤ steps) where
@@ -105,13 +104,13 @@ module _ (packet : Bor (List ℕ)) where
 
     right_ill : ill_after packet.now c.last (parameter_at packet.now c.at) ≡ true → Right n steps c
     right_ill e =
-        answers_end n c (Refused (refusal 3)) (λ more. refl) (stands_ill packet.now c h e)
+        answers_end n c (Err (refusal 3)) (λ more. refl) (stands_ill packet.now c h e)
         ∙ (sym (to_ill packet.now c.last (parameter_at packet.now c.at) (from (steps - 1) (past c)) e) ∙ ap (answers_to packet.now c.last) (sym first))
 
     right_found : ill_after packet.now c.last (parameter_at packet.now c.at) ≡ false → Right n (steps - 1) (past c) → Right (suc n) steps c
     right_found e rest =
         answers_more n c (parameter_at packet.now c.at) (stands_found packet.now c h e)
-        ∙ (ap (λ (ys : List Step). Found (parameter_at packet.now c.at) ∷ ys) rest
+        ∙ (ap (λ (ys : List Step). found (parameter_at packet.now c.at) ∷ ys) rest
         ∙ (sym (to_found packet.now c.last (parameter_at packet.now c.at) (from (steps - 1) (past c)) e) ∙ ap (answers_to packet.now c.last) (sym first)))
 
   right : (n steps : ℕ) (c : Cursor) → length packet.now - c.at ≤ n → length packet.now - c.at ≤ steps → Right n steps c

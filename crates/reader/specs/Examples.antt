@@ -1,13 +1,11 @@
 -- Worked examples, computed from the definitions.
-use Rattle.std.specs.Prelude.{ℕ, ◌+◌, ◌≡◌, refl, List, [], ◌∷◌, ◌++◌, map, replicate}
+use Rattle.std.specs.Prelude.{ℕ, ◌+◌, ◌≡◌, refl, List, [], ◌∷◌, ◌++◌, map, replicate, None, Ok, Err}
 use Rattle.std.specs.Borrow.{Bor}
 use Rattle.refusal.specs.Table.{refusal}
-use Rattle.octets.specs.Records.{records, some}
-use Rattle.parameter.specs.declared.Step.{Step}
-use Rattle.parameter.specs.declared.Step.TheVariants.{Found, End, Refused}
+use Rattle.octets.specs.Records.{records}
 use Rattle.parameter.specs.Types.{wrong_length}
 use Rattle.frame.specs.Parameters.{falls}
-use Rattle.reader.specs.Readers.{advanced_of, fresh, stepped_of}
+use Rattle.reader.specs.Readers.{Step, found, advanced_of, fresh, stepped_of}
 use Rattle.reader.specs.Through.{answers, after, well_formed, answers_to, answers_of}
 
 -- SEQ, ACK, SEQ with a wrong length, and the first four bytes of an ACK; a packet has them after its header, which a reader does not judge
@@ -28,7 +26,7 @@ packet parameters = replicate 40 0 ++ parameters
 
 -- a parameter of four bytes, by its type and its place
 abbrev four : (kind at : ℕ) → Step
-four kind at = Found (record { kind = kind; len = 4; body = at; next = 4 + at })
+four kind at = found (record { kind = kind; len = 4; body = at; next = 4 + at })
 
 -- packets, and what a new reader of each answers, step by step
 abbrev packets : List (List ℕ)
@@ -46,17 +44,17 @@ packets =
 abbrev answered : List (List Step)
 answered =
     -- a packet shorter than the header, and one without parameters: the end
-    (End ∷ [])
-    ∷ (End ∷ [])
+    (Ok None ∷ [])
+    ∷ (Ok None ∷ [])
     -- each parameter in order, and the end; types may be equal
-    ∷ (four 385 44 ∷ four 449 52 ∷ End ∷ [])
-    ∷ (four 449 44 ∷ four 449 52 ∷ End ∷ [])
+    ∷ (four 385 44 ∷ four 449 52 ∷ Ok None ∷ [])
+    ∷ (four 449 44 ∷ four 449 52 ∷ Ok None ∷ [])
     -- a type that falls, a wrong length, a parameter past the end: what stands before it, and the refusal
-    ∷ (four 449 44 ∷ Refused (refusal 3) ∷ [])
-    ∷ (four 385 44 ∷ Refused (refusal 3) ∷ [])
-    ∷ (four 385 44 ∷ Refused (refusal 3) ∷ [])
+    ∷ (four 449 44 ∷ Err (refusal 3) ∷ [])
+    ∷ (four 385 44 ∷ Err (refusal 3) ∷ [])
+    ∷ (four 385 44 ∷ Err (refusal 3) ∷ [])
     -- the first parameter falls below none, also where its type is 0
-    ∷ (Found (record { kind = 0; len = 0; body = 44; next = 48 }) ∷ End ∷ [])
+    ∷ (found (record { kind = 0; len = 0; body = 44; next = 48 }) ∷ Ok None ∷ [])
     ∷ []
 
 -- a reference to a packet, in the memory that r points to
@@ -72,19 +70,19 @@ through r = refl
 at_most : (r : Bor (List ℕ)) → map (λ (steps : ℕ). answers steps (fresh (holding r (packet (seq ++ ack))))) (0 ∷ 1 ∷ 2 ∷ 3 ∷ [])
     ≡ (four 385 44 ∷ [])
     ∷ (four 385 44 ∷ four 449 52 ∷ [])
-    ∷ (four 385 44 ∷ four 449 52 ∷ End ∷ [])
-    ∷ (four 385 44 ∷ four 449 52 ∷ End ∷ [])
+    ∷ (four 385 44 ∷ four 449 52 ∷ Ok None ∷ [])
+    ∷ (four 385 44 ∷ four 449 52 ∷ Ok None ∷ [])
     ∷ []
 unfolding answers advanced_of wrong_length
 at_most r = refl
 
 -- and what the packet's parameters call for is the same
 called_for : map answers_of packets ≡ answered
-unfolding answers_to well_formed records some falls wrong_length
+unfolding answers_to well_formed records falls wrong_length
 called_for = refl
 
 -- past its last answer a reader stays where it is, and answers the same
-stays : (r : Bor (List ℕ)) → ((stepped_of (after 9 (fresh (holding r (packet (seq ++ ack)))))).step ≡ End)
-    × ((stepped_of (after 9 (fresh (holding r (packet (ack ++ seq)))))).step ≡ Refused (refusal 3))
+stays : (r : Bor (List ℕ)) → ((stepped_of (after 9 (fresh (holding r (packet (seq ++ ack)))))).step ≡ Ok None)
+    × ((stepped_of (after 9 (fresh (holding r (packet (ack ++ seq)))))).step ≡ Err (refusal 3))
 unfolding after advanced_of wrong_length
 stays r = (refl, refl)

@@ -1,18 +1,16 @@
 -- What a reader answers when it is stepped to its end. `read_through`, in proofs/, is the law: `answers` of a new reader is `answers_of` its packet.
-use Rattle.std.specs.Prelude.{ℕ, zero, suc, cond, List, [], ◌∷◌, ◌++◌, map}
+use Rattle.std.specs.Prelude.{ℕ, zero, suc, cond, List, [], ◌∷◌, ◌++◌, map, None, Some, Ok, Err}
 use Rattle.refusal.specs.Table.{refusal}
 use Rattle.parameter.specs.declared.Parameter.{Parameter}
-use Rattle.parameter.specs.declared.Step.{Step}
-use Rattle.parameter.specs.declared.Step.TheVariants.{Found, End, Refused}
 use Rattle.frame.specs.Parameters.{parameters, ill_formed, ill_after}
 use Rattle.reader.specs.declared.ParameterReader.{ParameterReader}
-use Rattle.reader.specs.Readers.{stepped_of}
+use Rattle.reader.specs.Readers.{Step, found, stepped_of}
 
 -- more answers follow a parameter, and nothing else
 abbrev pub after_found : Step → List Step → List Step
-after_found (Found p) more = more
-after_found End more = []
-after_found (Refused why) more = []
+after_found (Ok (Some p)) more = more
+after_found (Ok None) more = []
+after_found (Err why) more = []
 
 -- the answers of a reader that is stepped until one of them is no parameter: once, and at most `steps` times more
 unfoldable pub answers : (steps : ℕ) → ParameterReader → List Step
@@ -33,8 +31,8 @@ well_formed s last (p ∷ ps) = cond (ill_after s last p) [] (p ∷ well_formed 
 -- that refusal 3 refuses, and that refusal
 unfoldable pub answers_to : List ℕ → (last : ℕ) → List Parameter → List Step
 answers_to s last ps =
-    cond (ill_formed s last ps) (map Found (well_formed s last ps) ++ (Refused (refusal 3) ∷ []))
-    (map Found ps ++ (End ∷ []))
+    cond (ill_formed s last ps) (map found (well_formed s last ps) ++ (Err (refusal 3) ∷ []))
+    (map found ps ++ (Ok None ∷ []))
 
 -- to a packet's
 abbrev pub answers_of : List ℕ → List Step

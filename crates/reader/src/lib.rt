@@ -4,11 +4,11 @@
 ghost use Rattle.std.specs.Prelude.{◌≡◌};
 ghost use Rattle.reader.specs.Readers.{start, advanced_of, fresh, stepped_of};
 
-use parameter::Step;
+use parameter::Parameter;
 use refusal::Refusal;
 
 // Where a reader stands: the place of the next parameter, and the type of the one before it, 0 before the first.
-#[derive(Drop)]
+#[derive(Clone, Copy)]
 pub struct Cursor {
     pub at: usize,
     pub last: usize,
@@ -21,20 +21,6 @@ pub struct ParameterReader<'p> {
     pub cursor: Cursor,
 }
 
-// What stands at a cursor, and the cursor after it.
-#[derive(Drop)]
-pub struct Advanced {
-    pub step: Step,
-    pub cursor: Cursor,
-}
-
-// What stands at a reader's place, and the reader after it.
-#[derive(Drop)]
-pub struct Stepped<'p> {
-    pub step: Step,
-    pub reader: ParameterReader<'p>,
-}
-
 // The cursor of a new reader: at the header's end.
 pub fn start_cursor() -> Cursor
     ensures { result ≡ start }
@@ -45,77 +31,48 @@ pub fn start_cursor() -> Cursor
     }
 }
 
-// The work of a step, on the slice and the cursor: the step of the walk, and the test of a falling type.
+// One step at a cursor: the step of the walk, and the test of a falling type. The cursor moves past a parameter, and else stays.
 #[tactic(auto, using(std::proofs::lemmas::Bool::Decides::nat_tests), unfolding(crate::specs::Readers::advanced_of))]
-fn advance(packet: &[u8], from: Cursor) -> Advanced
-    ensures { result ≡ advanced_of packet.now from }
+pub fn next_parameter(packet: &[u8], cursor: &mut Cursor) -> Result<Option<Parameter>, Refusal>
+    ensures step { result ≡ (advanced_of packet.now cursor.old).step }
+    ensures place { cursor.new ≡ (advanced_of packet.now cursor.old).cursor }
 {
-    match parameter::step_at(packet, from.at) {
-        Step::End => Advanced {
-            step: Step::End,
-            cursor: from,
-        },
-        Step::Refused(refusal) => Advanced {
-            step: Step::Refused(refusal),
-            cursor: from,
-        },
-        Step::Found(p) => {
-            if p.kind < from.last {
-                Advanced {
-                    step: Step::Refused(Refusal::Malformed),
-                    cursor: from,
-                }
-            } else {
-                Advanced {
-                    step: Step::Found(p),
-                    cursor: Cursor {
-                        at: p.next,
-                        last: p.kind,
-                    },
-                }
-            }
+    let Some(p) = parameter::step_at(packet, cursor.at)? else {
+        return Ok(None);
+    };
+    if p.kind < cursor.last {
+        return Err(Refusal::Malformed);
+    }
+    *cursor = Cursor {
+        at: p.next,
+        last: p.kind,
+    };
+    Ok(Some(p))
+}
+
+impl<'p> ParameterReader<'p> {
+    // A reader of the packet, before its first parameter. The header's rule is not judged here: `frame::walk` does.
+    pub fn new(packet: &'p [u8]) -> ParameterReader<'p>
+        ensures { result ≡ fresh packet.entry }
+    {
+        ParameterReader {
+            packet,
+            cursor: start_cursor(),
         }
     }
-}
 
-// A reader of the packet, before its first parameter. The header's rule is not judged here: `frame::walk` does.
-pub fn new<'p>(packet: &'p [u8]) -> ParameterReader<'p>
-    ensures { result ≡ fresh packet.entry }
-{
-    let cursor = start_cursor();
-    ParameterReader { packet, cursor }
-}
-
-// What stands at the reader's place, with the reader moved past it. A reader at the end, or at what is refused, stays there.
-pub fn step<'p>(reader: ParameterReader<'p>) -> Stepped<'p>
-    ensures { result ≡ stepped_of reader.entry }
-{
-    let packet = reader.packet;
-    let found = advance(packet, reader.cursor);
-    let moved = ParameterReader {
-        packet,
-        cursor: found.cursor,
-    };
-    Stepped {
-        step: found.step,
-        reader: moved,
+    // What stands at the reader's place, with the reader moved past it. A reader at the end, or at what is refused, stays there.
+    pub fn step(&mut self) -> Result<Option<Parameter>, Refusal>
+        ensures step { result ≡ (stepped_of self.old).step }
+        ensures reader { self.new ≡ (stepped_of self.old).reader }
+    {
+        next_parameter(self.packet, &mut self.cursor)
     }
-}
 
-// The packet that the reader was given.
-pub fn into_packet<'p>(reader: ParameterReader<'p>) -> &'p [u8]
-    ensures { result ≡ reader.entry.packet }
-{
-    reader.packet
-}
-
-// A step of a reader of the packet that stands at the cursor, for a caller that keeps the cursor in place of a reader.
-pub fn next_parameter(packet: &[u8], cursor: Cursor) -> Advanced
-    ensures { result ≡ advanced_of packet.now cursor }
-{
-    let stepped = step(ParameterReader { packet, cursor });
-    Advanced {
-        step: stepped.step,
-        cursor: stepped.reader.cursor,
+    // The packet that the reader was given.
+    pub fn into_packet(self) -> &'p [u8]
+        ensures { result ≡ self.entry.packet }
+    {
+        self.packet
     }
 }

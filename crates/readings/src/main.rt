@@ -6,8 +6,7 @@
 // Depends on exported and on octets.
 #![tactic(auto)]
 
-ghost use Rattle.std.specs.Prelude.{◌+◌, ◌≤◌, length, IfOk};
-ghost use Rattle.readings.specs.Bases.{Within, Found};
+ghost use Rattle.std.specs.Prelude.{◌≤◌, length, IfOk, IfSome};
 
 use std::io;
 use std::io::Read;
@@ -25,25 +24,11 @@ const LENGTH_SIZE: usize = 2;
 
 const EDIT_SIZE: usize = 6;
 
-// A base packet: where it starts in the file and where it ends.
+// A base packet: where it starts and where it ends.
 #[derive(Clone, Copy)]
 struct Base {
     start: usize,
     end: usize,
-}
-
-// What stands at a place of the file: a base packet, or none that is whole.
-#[derive(Drop)]
-enum BaseStep {
-    Whole(Base),
-    Torn,
-}
-
-// Where the edits begin, or the base packets do not fit.
-#[derive(Drop)]
-enum EditsPlace {
-    Begin(usize),
-    Nowhere,
 }
 
 // The index of a base packet, how many of its bytes are taken, and which of them is changed by which mask.
@@ -55,106 +40,70 @@ struct Edit {
     mask: u8,
 }
 
-// The packets of the edits up to a place, as one number.
-#[derive(Drop)]
-struct Run {
-    place: usize,
-    number: u64,
-}
-
-// The base packet whose length stands at `at`.
-fn base_at(s: &[u8], at: usize) -> BaseStep
-    ensures { Found (length s.now) result }
+// The base packet whose length stands at `at`, where it is whole.
+fn base_at(s: &[u8], at: usize) -> Option<Base>
+    ensures { IfSome result (λ base. (base.start ≤ base.end) × (base.end ≤ length s.now)) }
 {
-    if s.len() < LENGTH_SIZE {
-        return BaseStep::Torn;
-    }
-    if s.len() - LENGTH_SIZE < at {
-        return BaseStep::Torn;
-    }
     let len = octets::u16_at(s, at);
-    let start = at + LENGTH_SIZE;
-    if LONGEST < len {
-        return BaseStep::Torn;
-    }
-    if s.len() - start < len {
-        return BaseStep::Torn;
-    }
-    BaseStep::Whole(Base {
-        start,
-        end: start + len,
-    })
+    let start = at.checked_add(LENGTH_SIZE)?;
+    let end = start.checked_add(len)?;
+    (len <= LONGEST && end <= s.len()).then_some(Base { start, end })
 }
 
-// Where the edits begin, after so many base packets.
-fn edits_after(s: &[u8], count: usize) -> EditsPlace {
-    let mut at: usize = 1;
-    let mut k: usize = 0;
-    while k < count {
-        let BaseStep::Whole(base) = base_at(s, at) else {
-            return EditsPlace::Nowhere;
-        };
-        at = base.end;
-        k += 1;
-    }
-    EditsPlace::Begin(at)
-}
-
-// The edit at a place.
-fn edit_at(s: &[u8], at: usize) -> Edit
-    requires { at + 6 ≤ length s.now }
+// How many base packets a file has, and where the edits begin after them; none where the base packets do not fit.
+fn bases_in(s: &[u8]) -> Option<(usize, usize)>
+    ensures { IfSome result (λ found. found.1 ≤ length s.now) }
 {
+    let count = usize::from(*s.first()?);
+    if BASE_LIMIT < count {
+        return None;
+    }
+    let mut at = 1;
+    for _ in 0..count {
+        at = base_at(s, at)?.end;
+    }
+    Some((count, at))
+}
+
+// The edit in these bytes.
+fn edit_of(bytes: &[u8; EDIT_SIZE]) -> Edit {
+    let [index, taken_high, taken_low, offset_high, offset_low, mask] = *bytes;
     Edit {
-        index: octets::byte(s[at]),
-        taken: octets::u16_at(s, at + 1),
-        offset: octets::u16_at(s, at + 3),
-        mask: s[at + 5],
+        index: usize::from(index),
+        taken: usize::from(u16::from_be_bytes([taken_high, taken_low])),
+        offset: usize::from(u16::from_be_bytes([offset_high, offset_low])),
+        mask,
     }
 }
 
-// Applies an edit's mask to the base packet that starts at `start`. An offset past the bytes taken changes nothing, and applying it twice does not either.
-fn flip(s: &mut [u8], start: usize, edit: Edit)
-    requires { start + edit.taken ≤ length s.old }
-{
-    if edit.offset < edit.taken {
-        let at = start + edit.offset;
-        s[at] = s[at] ^ edit.mask;
+// Applies an edit's mask to the bytes taken. An offset past them changes nothing, and applying it twice does not either.
+fn flip(packet: &mut [u8], edit: Edit) {
+    if let Some(byte) = packet.get_mut(edit.offset) {
+        *byte ^= edit.mask;
     }
 }
 
-// What is read of the packet that an edit stands for. The base packet is edited in its place, and then put back.
-fn read_edited(s: &mut [u8], start: usize, edit: Edit) -> u64
-    requires { start + edit.taken ≤ length s.old }
-{
-    let end = start + edit.taken;
-    flip(s, start, edit);
-    let number = exported::nisgrove_read(&s[start..end]);
-    flip(s, start, edit);
+// What is read of the packet that an edit stands for. The bytes taken are edited in their place, and then put back.
+fn read_edited(packet: &mut [u8], edit: Edit) -> u64 {
+    flip(packet, edit);
+    let number = exported::nisgrove_read(packet);
+    flip(packet, edit);
     number
 }
 
-// The packets of one base packet's edits, of which the first stands at `from`, as one number, and the place of the first edit that is not one of them.
-fn fold_edits(s: &mut [u8], base: Base, index: usize, from: usize) -> Run
-    requires { Within (length s.old) base }
-    ensures { from ≤ result.place }
-{
-    let mut at = from;
-    let mut number: u64 = 0;
-    while at < s.len() {
-        if s.len() - at < EDIT_SIZE {
+// The packets of one base packet's edits, with which the bytes begin, as one number, and the bytes after those edits.
+fn fold_edits<'e>(base: &mut [u8], index: usize, edits: &'e [u8]) -> (u64, &'e [u8]) {
+    let mut number = 0;
+    let mut rest = edits;
+    while let Some((bytes, after)) = rest.split_first_chunk::<EDIT_SIZE>() {
+        let edit = edit_of(bytes);
+        if edit.index != index || base.len() < edit.taken {
             break;
         }
-        let edit = edit_at(s, at);
-        if edit.index != index {
-            break;
-        }
-        if base.end - base.start < edit.taken {
-            break;
-        }
-        number = exported::mix(number, read_edited(s, base.start, edit));
-        at += EDIT_SIZE;
+        number = exported::mix(number, read_edited(&mut base[..edit.taken], edit));
+        rest = after;
     }
-    Run { place: at, number }
+    (number, rest)
 }
 
 fn print_line(rt: &impl Print, number: u64) -> io::Result<()> {
@@ -165,46 +114,42 @@ fn print_malformed(rt: &impl Print) -> io::Result<()> {
     println!(rt; "malformed")
 }
 
-// Prints a line for each base packet, and answers where the edits end that are theirs in order.
-fn print_bases(rt: &impl Print, s: &mut [u8], count: usize, from: usize) -> io::Result<usize>
-    ensures { IfOk result (λ place. from ≤ place) }
-{
-    let mut place = from;
-    let mut at: usize = 1;
-    let mut k: usize = 0;
-    while k < count {
-        let BaseStep::Whole(base) = base_at(s, at) else {
-            return Ok(place);
+// Prints a line for each base packet, and answers what is left of the edits after those that are theirs in order.
+fn print_bases<'e>(
+    rt: &impl Print,
+    s: &mut [u8],
+    count: usize,
+    edits: &'e [u8],
+) -> io::Result<&'e [u8]> {
+    let mut rest = edits;
+    let mut at = 1;
+    for index in 0..count {
+        let Some(base) = base_at(s, at) else {
+            break;
         };
-        let run = fold_edits(s, base, k, place);
-        print_line(rt, run.number)?;
-        place = run.place;
+        let (number, after) = fold_edits(&mut s[base.start..base.end], index, rest);
+        print_line(rt, number)?;
+        rest = after;
         at = base.end;
-        k += 1;
     }
-    Ok(place)
+    Ok(rest)
 }
 
 // Prints the lines of a file. Edits that are left after the last base packet's are torn, out of order, or of no base packet or more bytes than it has.
 fn print_file(rt: &impl Print, s: &mut [u8]) -> io::Result<()> {
-    if s.len() == 0 {
-        return print_malformed(rt);
-    }
-    let count = octets::byte(s[0]);
-    if BASE_LIMIT < count {
-        return print_malformed(rt);
-    }
-    let EditsPlace::Begin(from) = edits_after(s, count) else {
+    let Some((count, place)) = bases_in(s) else {
         return print_malformed(rt);
     };
-    let end = print_bases(rt, s, count, from)?;
-    if end < s.len() {
+    let (bases, edits) = s.split_at_mut(place);
+    let rest = print_bases(rt, bases, count, edits)?;
+    if !rest.is_empty() {
         return print_malformed(rt);
     }
-    print_line(rt, ((end - from) / EDIT_SIZE) as u64)
+    print_line(rt, (edits.len() / EDIT_SIZE) as u64)
 }
 
-// Reads until the buffer is full or the input ends, and answers how many bytes it read.
+// Reads until the buffer is full or the input ends, and answers how many bytes it read. No call of std does: `read_exact` asks for all of it, and `read_to_end`
+// takes memory.
 fn read_full(input: &mut impl Read, buffer: &mut [u8]) -> io::Result<usize>
     ensures { IfOk result (λ count. count ≤ length buffer.new) }
 {

@@ -4,63 +4,38 @@
 ghost use Rattle.std.specs.Prelude.{◌≡◌};
 ghost use Rattle.refusal.specs.Table.{number_of};
 
-// One case for each refusal, in the order of the numbers, from 0. `number_of` in specs/ has the numbers.
-#[derive(Clone, Copy)]
+// One case for each refusal, with the number that the papers give it. `number_of` in specs/ has the numbers.
+#[derive(Clone, Copy, PartialEq, Eq, Debug)]
 pub enum Refusal {
-    BadAssociation,
-    ShortReplyBuffer,
-    NotAuthentic,
-    Malformed,
-    UnknownParameter,
-    UnknownMessage,
-    BadLocatorSet,
-    StaleUpdateId,
-    UnmatchedEcho,
-    WrongSpi,
-    RepeatedNonce,
-    UpdateIdsUsedUp,
-    BadTime,
-    BadSize,
-    NoPath,
-    NoCredit,
-    BadStart,
-    BadListSize,
-    BadList,
-    BadInboundSpi,
-    NoUpdateIdLeft,
-    ShortBuffer,
-    LongOpaque,
-    ShortTickBuffer,
+    BadAssociation = 0,
+    ShortReplyBuffer = 1,
+    NotAuthentic = 2,
+    Malformed = 3,
+    UnknownParameter = 4,
+    UnknownMessage = 5,
+    BadLocatorSet = 6,
+    StaleUpdateId = 7,
+    UnmatchedEcho = 8,
+    WrongSpi = 9,
+    RepeatedNonce = 10,
+    UpdateIdsUsedUp = 11,
+    BadTime = 12,
+    BadSize = 13,
+    NoPath = 14,
+    NoCredit = 15,
+    BadStart = 16,
+    BadListSize = 17,
+    BadList = 18,
+    BadInboundSpi = 19,
+    NoUpdateIdLeft = 20,
+    ShortBuffer = 21,
+    LongOpaque = 22,
+    ShortTickBuffer = 23,
 }
 
-// The number that the papers give the refusal.
+// The refusal's number. It stays a function beside the enum's own numbers: pages, programs and the definition's edits name it.
 pub fn number(refusal: Refusal) -> u8
     ensures { result ≡ number_of refusal }
 {
-    match refusal {
-        Refusal::BadAssociation => 0,
-        Refusal::ShortReplyBuffer => 1,
-        Refusal::NotAuthentic => 2,
-        Refusal::Malformed => 3,
-        Refusal::UnknownParameter => 4,
-        Refusal::UnknownMessage => 5,
-        Refusal::BadLocatorSet => 6,
-        Refusal::StaleUpdateId => 7,
-        Refusal::UnmatchedEcho => 8,
-        Refusal::WrongSpi => 9,
-        Refusal::RepeatedNonce => 10,
-        Refusal::UpdateIdsUsedUp => 11,
-        Refusal::BadTime => 12,
-        Refusal::BadSize => 13,
-        Refusal::NoPath => 14,
-        Refusal::NoCredit => 15,
-        Refusal::BadStart => 16,
-        Refusal::BadListSize => 17,
-        Refusal::BadList => 18,
-        Refusal::BadInboundSpi => 19,
-        Refusal::NoUpdateIdLeft => 20,
-        Refusal::ShortBuffer => 21,
-        Refusal::LongOpaque => 22,
-        Refusal::ShortTickBuffer => 23,
-    }
+    refusal as u8
 }

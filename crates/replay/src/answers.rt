@@ -1,164 +1,144 @@
-// The line of a call and its answer.
-ghost use Rattle.std.specs.Prelude.{◌∷◌};
-ghost use Rattle.lines.specs.Laid.{Laid};
-ghost use Rattle.lines.specs.Answers.{name_text, call_text, refusal_text, outcome_text, send_text, counts_text, bytes_text, any_text, reply_text, message_text, tick_text, announcement_text};
+// The line of a call and its answer. Each part is put into the text that is held, and not printed by a Display: its contract says which text of crate lines it is.
+#![tactic(auto, unfolding(lines::specs::Laid::laid_out, lines::specs::Laid::laid_end, lines::specs::Answers::name_text, lines::specs::Answers::call_text, lines::specs::Answers::refusal_text, lines::specs::Answers::outcome_text, lines::specs::Answers::send_text, lines::specs::Answers::counts_text, lines::specs::Answers::bytes_text, lines::specs::Answers::any_text, lines::specs::Answers::reply_text, lines::specs::Answers::message_text, lines::specs::Answers::tick_text, lines::specs::Answers::announcement_text))]
 
-use crate::words::{put_bytes, put_field, put_word};
+ghost use Rattle.std.specs.Prelude.{◌∷◌};
+ghost use Rattle.lines.specs.Answers.{name_text, call_text, refusal_text, outcome_text, send_text, counts_text, bytes_text, any_text, reply_text, message_text, tick_text, announcement_text};
+ghost use Rattle.replay.specs.Put.{Put};
+
+use crate::words::Text;
 use announcement::Announcement;
-use association::Outcome;
 use clock::TickAnswer;
-use payload::SendOutcome;
 use refusal::Refusal;
 use resend::RESEND_SIZE;
-use sections::Section;
-use text::put_decimal;
 use trace::Call;
-use update::{MessageAnswer, MessageOutcome};
+use update::{MessageAnswer, Received};
 
-fn put_name(out: &mut [u8], at: usize, call: Call) -> usize
-    ensures { Laid (name_text call) at out.old out.new result }
+fn put_name(text: &mut Text, call: Option<Call>)
+    ensures { Put (name_text call) text.old text.new }
 {
     match call {
-        Call::Start(_) => put_word(out, at, b" start"),
-        Call::Message(_) => put_word(out, at, b" message"),
-        Call::Arrival(_) => put_word(out, at, b" arrival"),
-        Call::Send(_) => put_word(out, at, b" send"),
-        Call::Tick(_) => put_word(out, at, b" tick"),
-        Call::Announce(_) => put_word(out, at, b" announcement"),
-        Call::Malformed => put_word(out, at, b" malformed"),
+        Some(Call::Start(_)) => text.put_word(b" start"),
+        Some(Call::Message(_)) => text.put_word(b" message"),
+        Some(Call::Arrival(_)) => text.put_word(b" arrival"),
+        Some(Call::Send(_)) => text.put_word(b" send"),
+        Some(Call::Tick(_)) => text.put_word(b" tick"),
+        Some(Call::Announce(_)) => text.put_word(b" announcement"),
+        None => text.put_word(b" malformed"),
     }
 }
 
 // The beginning of a record's line: its number, and which call it is.
-pub(crate) fn put_call(out: &mut [u8], at: usize, index: u64, call: Call) -> usize
-    ensures { Laid (call_text index call) at out.old out.new result }
+pub(crate) fn put_call(text: &mut Text, index: u64, call: Option<Call>)
+    ensures { Put (call_text index call) text.old text.new }
 {
-    let at = put_field(out, at, b"", index);
-    put_name(out, at, call)
+    text.put_field(b"", index);
+    put_name(text, call);
 }
 
-fn put_refusal(out: &mut [u8], at: usize, why: Refusal) -> usize
-    ensures { Laid (refusal_text why) at out.old out.new result }
+fn put_refusal(text: &mut Text, why: Refusal)
+    ensures { Put (refusal_text why) text.old text.new }
 {
-    let at = put_field(out, at, b" refused ", refusal::number(why) as u64);
-    put_word(out, at, b"\n")
+    text.put_field(b" refused ", u64::from(refusal::number(why)));
+    text.put_word(b"\n");
 }
 
 // What a start or an arrival answered.
-pub(crate) fn put_outcome(out: &mut [u8], at: usize, outcome: Outcome) -> usize
-    ensures { Laid (outcome_text outcome) at out.old out.new result }
+pub(crate) fn put_outcome(text: &mut Text, outcome: Result<(), Refusal>)
+    ensures { Put (outcome_text outcome) text.old text.new }
 {
     match outcome {
-        Outcome::Accepted => put_word(out, at, b" accepted\n"),
-        Outcome::Refused(why) => put_refusal(out, at, why),
+        Ok(()) => text.put_word(b" accepted\n"),
+        Err(why) => put_refusal(text, why),
     }
 }
 
 // What a send answered.
-pub(crate) fn put_send(out: &mut [u8], at: usize, outcome: SendOutcome) -> usize
-    ensures { Laid (send_text outcome) at out.old out.new result }
+pub(crate) fn put_send(text: &mut Text, outcome: Result<usize, Refusal>)
+    ensures { Put (send_text outcome) text.old text.new }
 {
     match outcome {
-        SendOutcome::Granted(slot) => {
-            let at = put_field(out, at, b" granted slot ", slot as u64);
-            put_word(out, at, b"\n")
+        Ok(slot) => {
+            text.put_field(b" granted slot ", slot as u64);
+            text.put_word(b"\n");
         }
-        SendOutcome::Denied(why) => put_refusal(out, at, why),
+        Err(why) => put_refusal(text, why),
     }
 }
 
 // The first so many bytes of the buffer, which were written.
-fn put_written(out: &mut [u8], at: usize, count: usize, buffer: &[u8]) -> usize
-    ensures { Laid (bytes_text count buffer.now) at out.old out.new result }
+fn put_written(text: &mut Text, count: usize, buffer: &[u8])
+    ensures { Put (bytes_text count buffer.now) text.old text.new }
 {
-    let written = Section {
-        start: 0,
-        end: count,
-    };
-    let at = put_word(out, at, b" ");
-    let at = put_bytes(out, at, sections::part(buffer, written));
-    put_word(out, at, b"\n")
-}
-
-// The numbers that an answered message tells.
-fn put_counts(out: &mut [u8], at: usize, answer: MessageAnswer) -> usize
-    ensures { Laid (counts_text answer) at out.old out.new result }
-{
-    let at = put_field(out, at, b" reply ", answer.written as u64);
-    let at = put_field(out, at, b" checks ", answer.checks as u64);
-    put_field(out, at, b" keymat ", answer.keymat as u64)
+    text.put_word(b" ");
+    text.put_bytes(&buffer[..count.min(buffer.len())]);
+    text.put_word(b"\n");
 }
 
 // The first so many bytes of the buffer, where there are any.
-fn put_any(out: &mut [u8], at: usize, count: usize, buffer: &[u8]) -> usize
-    ensures { Laid (any_text count buffer.now) at out.old out.new result }
+fn put_any(text: &mut Text, count: usize, buffer: &[u8])
+    ensures { Put (any_text count buffer.now) text.old text.new }
 {
     if count == 0 {
-        return put_word(out, at, b"\n");
+        text.put_word(b"\n");
+    } else {
+        put_written(text, count, buffer);
     }
-    put_written(out, at, count, buffer)
 }
 
-// The numbers that an answered message tells, and the bytes of its reply.
-fn put_reply(out: &mut [u8], at: usize, answer: MessageAnswer, reply: &[u8]) -> usize
-    ensures { Laid (reply_text answer reply.now) at out.old out.new result }
+// The numbers that an answered message tells.
+fn put_counts(text: &mut Text, answer: &MessageAnswer)
+    ensures { Put (counts_text answer.now) text.old text.new }
 {
-    let at = put_counts(out, at, answer);
-    put_any(out, at, answer.written, reply)
+    text.put_field(b" reply ", answer.written as u64);
+    text.put_field(b" checks ", answer.checks as u64);
+    text.put_field(b" keymat ", u64::from(answer.keymat));
 }
 
-// How an answered message ended, what it tells and its reply.
-fn put_ended(out: &mut [u8], at: usize, word: &[u8], answer: MessageAnswer, reply: &[u8]) -> usize
-    ensures { Laid (word.now ∷ reply_text answer reply.now) at out.old out.new result }
+// How an answered message ended, the numbers that it tells, and the bytes of its reply.
+fn put_reply(text: &mut Text, word: &[u8], answer: &MessageAnswer, reply: &[u8])
+    ensures { Put (word.now ∷ reply_text answer.now reply.now) text.old text.new }
 {
-    let at = put_word(out, at, word);
-    put_reply(out, at, answer, reply)
+    text.put_word(word);
+    put_counts(text, answer);
+    put_any(text, answer.written, reply);
 }
 
 // What a message answered, with the buffer that its reply is in.
-pub(crate) fn put_message(out: &mut [u8], at: usize, answer: MessageAnswer, reply: &[u8]) -> usize
-    ensures { Laid (message_text answer reply.now) at out.old out.new result }
+pub(crate) fn put_message(text: &mut Text, answer: &MessageAnswer, reply: &[u8])
+    ensures { Put (message_text answer.now reply.now) text.old text.new }
 {
-    let outcome = answer.outcome;
-    match outcome {
-        MessageOutcome::Moved => put_ended(out, at, b" accepted", answer, reply),
-        MessageOutcome::Replied => put_ended(out, at, b" accepted", answer, reply),
-        MessageOutcome::Repeated => put_ended(out, at, b" repeated", answer, reply),
-        MessageOutcome::Responded => put_ended(out, at, b" accepted", answer, reply),
-        MessageOutcome::Declined(why) => put_refusal(out, at, why),
+    match answer.outcome {
+        Ok(Received::Moved | Received::Replied | Received::Responded) => {
+            put_reply(text, b" accepted", answer, reply);
+        }
+        Ok(Received::Repeated) => put_reply(text, b" repeated", answer, reply),
+        Err(why) => put_refusal(text, why),
     }
 }
 
 // What a tick answered, with the buffer that its resends are in.
-pub(crate) fn put_tick(out: &mut [u8], at: usize, answer: TickAnswer, buffer: &[u8]) -> usize
-    ensures { Laid (tick_text answer buffer.now) at out.old out.new result }
+pub(crate) fn put_tick(text: &mut Text, answer: &TickAnswer, buffer: &[u8])
+    ensures { Put (tick_text answer.now buffer.now) text.old text.new }
 {
-    let outcome = answer.outcome;
-    match outcome {
-        Outcome::Accepted => {
+    match answer.outcome {
+        Ok(()) => {
             let count = answer.written / RESEND_SIZE;
-            let at = put_field(out, at, b" accepted resent ", count as u64);
-            put_any(out, at, answer.written, buffer)
+            text.put_field(b" accepted resent ", count as u64);
+            put_any(text, answer.written, buffer);
         }
-        Outcome::Refused(why) => put_refusal(out, at, why),
+        Err(why) => put_refusal(text, why),
     }
 }
 
 // What an announcement answered, with the buffer that it is in.
-pub(crate) fn put_announcement(
-    out: &mut [u8],
-    at: usize,
-    answer: Announcement,
-    buffer: &[u8],
-) -> usize
-    ensures { Laid (announcement_text answer buffer.now) at out.old out.new result }
+pub(crate) fn put_announcement(text: &mut Text, answer: &Announcement, buffer: &[u8])
+    ensures { Put (announcement_text answer.now buffer.now) text.old text.new }
 {
-    let outcome = answer.outcome;
-    match outcome {
-        Outcome::Accepted => {
-            let at = put_field(out, at, b" accepted bytes ", answer.written as u64);
-            put_written(out, at, answer.written, buffer)
+    match answer.outcome {
+        Ok(()) => {
+            text.put_field(b" accepted bytes ", answer.written as u64);
+            put_written(text, answer.written, buffer);
         }
-        Outcome::Refused(why) => put_refusal(out, at, why),
+        Err(why) => put_refusal(text, why),
     }
 }

@@ -1,7 +1,7 @@
 // Replays a trace: reads the file that its argument names, a record at a time, makes each record's call, and prints what the call answers and the
 // association that it leaves. docs/DESIGN.md has the form of a trace and of the lines.
 // Crates trace and entries decode a record, crate lines says what each line is, and crate text spells numbers. calls.rt makes the calls; answers.rt,
-// state.rt and words.rt put the lines; this file reads and writes. Depends on announce, message, payload, clock, association and the crates of their
+// state.rt and words.rt put the lines; this file reads. Depends on announce, message, payload, clock, association and the crates of their
 // types, and on trace, entries, sections, lines and text.
 #![tactic(auto)]
 
@@ -10,269 +10,105 @@ mod calls;
 mod state;
 mod words;
 
-ghost use Rattle.std.specs.Prelude.{◌≡◌, length};
+ghost use Rattle.std.specs.Prelude.{◌≤◌, length};
 
-use address::Address;
-use calls::{Run, at_place};
-use sections::{RecordStep, Section};
+use association::Association;
+use sections::RecordStep;
 use std::fs::File;
 use std::io;
-use std::num::wrapping_add_u64;
 use std::rt::{Env, Files};
 use trace::ROOM_LIMIT;
+use words::Text;
 
 // The bytes of a trace that are held at a time. The longest record takes 196,611: three counts, and 65,535 bytes after each.
 const TRACE_ROOM: usize = 262144;
 
-// The text that is held at a time.
-const TEXT_ROOM: usize = 65536;
-
-// More than the text of one record: the longest reply has 384 bytes, and a state nine lines.
-const RECORD_TEXT: usize = 4096;
-
 // The longest path that can be opened, and one byte more.
 const PATH_ROOM: usize = 4096;
 
-// What became of a read: there may be more, the file has ended, or it cannot be read.
-#[derive(Clone, Copy)]
-enum Reading {
-    More,
-    Ended,
-    Failed,
-}
-
-// What is held of the trace, `filled` bytes of which the first record still to be replayed starts at `from`; what became of the last read; the number of
-// that record; and the run up to it.
+// How far a trace is replayed: the number of the record that comes next, and the association before it, if one was started.
 #[derive(Clone, Copy)]
 struct Replay {
-    from: usize,
-    filled: usize,
-    reading: Reading,
     index: u64,
-    run: Run,
+    association: Option<Association>,
 }
 
-// How many bytes are held after a read, and what became of it.
-#[derive(Drop)]
-struct Read {
-    filled: usize,
-    reading: Reading,
-}
-
-// Writes the first so many bytes of the text.
-fn flush(rt: &impl Print, out: &[u8], used: usize) -> io::Result<()> {
-    let text = Section {
-        start: 0,
-        end: used,
-    };
-    rt.write_all(sections::part(out, text))
-}
-
-// Writes the text that is held where the next record's might not fit after it.
-fn make_room(rt: &impl Print, out: &[u8], run: Run) -> io::Result<Run> {
-    if out.len() < RECORD_TEXT {
-        return Ok(run);
-    }
-    if run.used <= out.len() - RECORD_TEXT {
-        return Ok(run);
-    }
-    flush(rt, out, run.used)?;
-    Ok(at_place(run, 0))
-}
-
-// Replays the records that s holds whole.
+// Replays the records that s holds whole, and answers where the first starts that it does not.
+#[tactic(auto, using(sections::proofs::Steps::whole_next))]
 fn replay_held(
     rt: &impl Print,
     s: &[u8],
-    replay: Replay,
+    replay: &mut Replay,
     reply: &mut [u8; ROOM_LIMIT],
-    out: &mut [u8],
-) -> io::Result<Replay> {
-    let mut from = replay.from;
-    let mut index = replay.index;
-    let mut run = replay.run;
-    loop {
-        let RecordStep::Whole(found) = sections::record_at(s, from) else {
-            break;
-        };
-        let last = found.nonces;
-        run = make_room(rt, out, run)?;
-        run = calls::replay_record(s, found, index, run, reply, out);
-        index = wrapping_add_u64(index, 1);
-        from = last.end;
+    text: &mut Text,
+) -> io::Result<usize> {
+    let mut from = 0;
+    while let RecordStep::Whole(found) = sections::record_at(s, from) {
+        text.make_room(rt)?;
+        replay.association = calls::replay_record(
+            s,
+            found,
+            replay.index,
+            replay.association,
+            reply,
+            text,
+        );
+        replay.index = replay.index.wrapping_add(1);
+        from = found.nonces.end;
     }
-    let reading = replay.reading;
-    Ok(Replay {
-        from,
-        filled: replay.filled,
-        reading,
-        index,
-        run,
-    })
+    Ok(from)
 }
 
 // Moves the bytes from `from` on, up to `filled`, to the start, and answers how many there are.
-fn shift(held: &mut [u8], from: usize, filled: usize) -> usize {
-    let mut count = 0;
-    let mut at = from;
-    while at < filled {
-        if held.len() <= at {
-            break;
-        }
-        held[count] = held[at];
-        count += 1;
-        at += 1;
-    }
-    count
-}
-
-// Reads once, after the bytes that are held.
-fn read_more(file: &mut impl io::Read, held: &mut [u8], filled: usize) -> Read {
-    if held.len() < filled {
-        return Read {
-            filled,
-            reading: Reading::Failed,
-        };
-    }
-    let Ok(count) = file.read(&mut held[filled..]) else {
-        return Read {
-            filled,
-            reading: Reading::Failed,
-        };
-    };
-    if count == 0 {
-        return Read {
-            filled,
-            reading: Reading::Ended,
-        };
-    }
-    Read {
-        filled: filled + count,
-        reading: Reading::More,
-    }
-}
-
-// Replays what is held, and reads on.
-fn replay_on(
-    rt: &impl Print,
-    file: &mut impl io::Read,
-    replay: Replay,
-    held: &mut [u8],
-    reply: &mut [u8; ROOM_LIMIT],
-    out: &mut [u8],
-) -> io::Result<Replay> {
-    let whole = Section {
-        start: 0,
-        end: replay.filled,
-    };
-    let after = replay_held(rt, sections::part(held, whole), replay, reply, out)?;
-    let left = shift(held, after.from, after.filled);
-    let read = read_more(file, held, left);
-    let reading = read.reading;
-    let run = after.run;
-    Ok(Replay {
-        from: 0,
-        filled: read.filled,
-        reading,
-        index: after.index,
-        run,
-    })
-}
-
-// Before the first record: there is no association, which a refused start leaves too.
-fn new_replay() -> Replay {
-    let nowhere = Address { high: 0, low: 0 };
-    let none = association::start(0, 0, 0, nowhere, 0);
-    let association = none.association;
-    Replay {
-        from: 0,
-        filled: 0,
-        reading: Reading::More,
-        index: 0,
-        run: Run {
-            used: 0,
-            is_started: false,
-            association,
-        },
-    }
-}
-
-// There is nothing more to read.
-fn is_over(replay: Replay) -> bool {
-    let reading = replay.reading;
-    match reading {
-        Reading::More => false,
-        Reading::Ended => true,
-        Reading::Failed => true,
-    }
-}
-
-// The file cannot be read, or it ended within a record, whose first bytes are still held.
-fn is_torn(replay: Replay) -> bool {
-    let reading = replay.reading;
-    match reading {
-        Reading::More => false,
-        Reading::Ended => 0 < replay.filled,
-        Reading::Failed => true,
-    }
+fn shift(held: &mut [u8], from: usize, filled: usize) -> usize
+    requires { filled ≤ length held.old }
+    ensures { result ≤ filled }
+{
+    let from = from.min(filled);
+    held.copy_within(from..filled, 0);
+    filled - from
 }
 
 // Writes the text that is left, with a line that says so where the trace is torn.
-fn finish(rt: &impl Print, replay: Replay, out: &mut [u8]) -> io::Result<()> {
-    let run = replay.run;
-    if is_torn(replay) {
-        let used = text::put(out, run.used, b"torn\n");
-        return flush(rt, out, used);
+fn finish(rt: &impl Print, text: &mut Text, is_torn: bool) -> io::Result<()> {
+    if is_torn {
+        text.put_word(b"torn\n");
     }
-    flush(rt, out, run.used)
+    text.flush(rt)
 }
 
-// Replays a file in the buffers lent. A proved loop has to end, and nothing says that a file does: the turns are counted down from a number that no run
-// uses up.
+// Replays a file in the buffers lent. It is torn where it cannot be read, or ends within a record, whose first bytes are then still held. A proved loop has
+// to end, and nothing says that a file does: the turns are counted up to a number that no run reaches.
 fn replay_all(
     rt: &impl Print,
     file: &mut impl io::Read,
     held: &mut [u8],
     reply: &mut [u8; ROOM_LIMIT],
-    out: &mut [u8],
+    text: &mut Text,
 ) -> io::Result<()> {
-    let mut replay = new_replay();
-    let mut turns = u64::MAX;
-    while turns > 0 {
-        if is_over(replay) {
-            break;
+    let mut replay = Replay {
+        index: 0,
+        association: None,
+    };
+    let mut filled = 0;
+    for _ in 0..u64::MAX {
+        let from = replay_held(rt, &held[..filled], &mut replay, reply, text)?;
+        filled = shift(held, from, filled);
+        match file.read(&mut held[filled..]) {
+            Ok(0) => return finish(rt, text, 0 < filled),
+            Ok(count) => filled += count,
+            Err(_) => return finish(rt, text, true),
         }
-        replay = replay_on(rt, file, replay, held, reply, out)?;
-        turns -= 1;
     }
-    finish(rt, replay, out)
-}
-
-// The buffers. Each is made by a function of its own, whose `ensures` gives the length that lending it as a slice needs.
-fn trace_buffer() -> [u8; TRACE_ROOM]
-    ensures { 262144 ≡ length result }
-{
-    [0; TRACE_ROOM]
-}
-
-fn reply_buffer() -> [u8; ROOM_LIMIT]
-    ensures { 65535 ≡ length result }
-{
-    [0; ROOM_LIMIT]
-}
-
-fn text_buffer() -> [u8; TEXT_ROOM]
-    ensures { 65536 ≡ length result }
-{
-    [0; TEXT_ROOM]
+    finish(rt, text, false)
 }
 
 // Replays a file.
 fn replay_file(rt: &impl Print, file: &mut impl io::Read) -> io::Result<()> {
-    let mut held = trace_buffer();
-    let mut reply = reply_buffer();
-    let mut out = text_buffer();
-    replay_all(rt, file, &mut held, &mut reply, &mut out)
+    let mut held = [0u8; TRACE_ROOM];
+    let mut reply = [0u8; ROOM_LIMIT];
+    let mut text = Text::new();
+    replay_all(rt, file, &mut held, &mut reply, &mut text)
 }
 
 // The file that the argument names, where it can be opened.

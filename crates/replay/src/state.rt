@@ -1,124 +1,115 @@
-// The lines of an association's state.
-ghost use Rattle.lines.specs.Laid.{Laid};
+// The lines of an association's state, put as answers.rt says.
+#![tactic(auto, unfolding(lines::specs::Laid::laid_out, lines::specs::Laid::laid_end, lines::specs::State::address_text, lines::specs::State::check_text, lines::specs::State::status_text, lines::specs::State::locator_text, lines::specs::State::slot_text, lines::specs::State::peer_text, lines::specs::State::preference_text, lines::specs::State::numbers_text))]
+
 ghost use Rattle.lines.specs.State.{address_text, check_text, status_text, locator_text, slot_text, slots_text, peer_text, preference_text, numbers_text, head_text, state_text};
+ghost use Rattle.replay.specs.Put.{Put};
 
-use crate::words::{put_field, put_hex_number, put_word};
+use crate::words::Text;
 use address::Address;
-use association::{Association, PeerId};
-use path::Preference;
-use slot::{Check, Holding, Locator, SLOT_COUNT, Slot, Status};
+use association::Association;
+use slot::{Check, Locator, SLOT_COUNT, Slot, Status};
 
-fn put_address(out: &mut [u8], at: usize, address: Address) -> usize
-    ensures { Laid (address_text address) at out.old out.new result }
+fn put_address(text: &mut Text, address: Address)
+    ensures { Put (address_text address) text.old text.new }
 {
-    let at = put_hex_number(out, at, address.high);
-    put_hex_number(out, at, address.low)
+    text.put_hex_number(address.high);
+    text.put_hex_number(address.low);
 }
 
-fn put_check(out: &mut [u8], at: usize, check: Check) -> usize
-    ensures { Laid (check_text check) at out.old out.new result }
+fn put_check(text: &mut Text, check: Check)
+    ensures { Put (check_text check) text.old text.new }
 {
-    let at = put_hex_number(out, at, check.nonce);
-    let at = put_field(out, at, b" ", check.id as u64);
-    let at = put_field(out, at, b" issued ", check.issued);
-    put_field(out, at, b" resends ", check.resends as u64)
+    text.put_hex_number(check.nonce);
+    text.put_field(b" ", u64::from(check.id));
+    text.put_field(b" issued ", check.issued);
+    text.put_field(b" resends ", u64::from(check.resends));
 }
 
-fn put_status(out: &mut [u8], at: usize, status: Status) -> usize
-    ensures { Laid (status_text status) at out.old out.new result }
+fn put_status(text: &mut Text, status: Status)
+    ensures { Put (status_text status) text.old text.new }
 {
     match status {
-        Status::Active => put_word(out, at, b" active\n"),
-        Status::Deprecated => put_word(out, at, b" deprecated\n"),
+        Status::Active => text.put_word(b" active\n"),
+        Status::Deprecated => text.put_word(b" deprecated\n"),
         Status::Unverified(check) => {
-            let at = put_word(out, at, b" unverified ");
-            let at = put_check(out, at, check);
-            put_word(out, at, b"\n")
+            text.put_word(b" unverified ");
+            put_check(text, check);
+            text.put_word(b"\n");
         }
     }
 }
 
-fn put_locator(out: &mut [u8], at: usize, n: usize, l: Locator) -> usize
-    ensures { Laid (locator_text n l) at out.old out.new result }
+fn put_locator(text: &mut Text, n: usize, l: Locator)
+    ensures { Put (locator_text n l) text.old text.new }
 {
-    let status = l.status;
-    let at = put_field(out, at, b"  slot ", n as u64);
-    let at = put_word(out, at, b" ");
-    let at = put_address(out, at, l.address);
-    let at = put_field(out, at, b" traffic ", l.traffic as u64);
-    let at = put_field(out, at, b" expiry ", l.expiry);
-    put_status(out, at, status)
+    text.put_field(b"  slot ", n as u64);
+    text.put_word(b" ");
+    put_address(text, l.address);
+    text.put_field(b" traffic ", u64::from(l.traffic));
+    text.put_field(b" expiry ", l.expiry);
+    put_status(text, l.status);
 }
 
 // The line of a slot; none where it is empty.
-fn put_slot(out: &mut [u8], at: usize, n: usize, slot: Slot) -> usize
-    ensures { Laid (slot_text n slot) at out.old out.new result }
+fn put_slot(text: &mut Text, n: usize, slot: &Slot)
+    ensures { Put (slot_text n slot.now) text.old text.new }
 {
-    let holding = slot.holding;
-    match holding {
-        Holding::Empty => at,
-        Holding::Held(l) => put_locator(out, at, n, l),
+    if let Some(l) = slot.holding {
+        put_locator(text, n, l);
     }
 }
 
-fn put_slots(out: &mut [u8], at: usize, slots: [Slot; SLOT_COUNT]) -> usize
-    ensures { Laid (slots_text 0 slots) at out.old out.new result }
+fn put_slots(text: &mut Text, slots: &[Slot; SLOT_COUNT])
+    ensures { Put (slots_text 0 slots.now) text.old text.new }
 {
-    let mut place = at;
-    let mut n = 0;
-    while n < SLOT_COUNT {
-        place = put_slot(out, place, n, slots[n]);
-        n += 1;
+    for (n, slot) in slots.iter().enumerate() {
+        put_slot(text, n, slot);
     }
-    place
 }
 
-fn put_peer(out: &mut [u8], at: usize, peer: PeerId) -> usize
-    ensures { Laid (peer_text peer) at out.old out.new result }
+fn put_peer(text: &mut Text, peer: Option<u32>)
+    ensures { Put (peer_text peer) text.old text.new }
 {
     match peer {
-        PeerId::NoneSeen => put_word(out, at, b" peer -"),
-        PeerId::Highest(id) => put_field(out, at, b" peer ", id as u64),
+        Some(id) => text.put_field(b" peer ", u64::from(id)),
+        None => text.put_word(b" peer -"),
     }
 }
 
-fn put_preference(out: &mut [u8], at: usize, preferred: Preference) -> usize
-    ensures { Laid (preference_text preferred) at out.old out.new result }
+fn put_preference(text: &mut Text, preferred: Option<usize>)
+    ensures { Put (preference_text preferred) text.old text.new }
 {
     match preferred {
-        Preference::NoPreference => put_word(out, at, b" preferred -"),
-        Preference::Prefers(n) => put_field(out, at, b" preferred ", n as u64),
+        Some(n) => text.put_field(b" preferred ", n as u64),
+        None => text.put_word(b" preferred -"),
     }
 }
 
-fn put_numbers(out: &mut [u8], at: usize, a: Association) -> usize
-    ensures { Laid (numbers_text a) at out.old out.new result }
+fn put_numbers(text: &mut Text, a: &Association)
+    ensures { Put (numbers_text a.now) text.old text.new }
 {
-    let at = put_field(out, at, b"  out ", a.outbound as u64);
-    let at = put_field(out, at, b" in ", a.inbound as u64);
-    let at = put_field(out, at, b" time ", a.time);
-    let at = put_field(out, at, b" aged ", a.aged);
-    put_field(out, at, b" credit ", a.credit)
+    text.put_field(b"  out ", u64::from(a.outbound));
+    text.put_field(b" in ", u64::from(a.inbound));
+    text.put_field(b" time ", a.time);
+    text.put_field(b" aged ", a.aged);
+    text.put_field(b" credit ", a.credit);
 }
 
 // The line of what an association holds besides its slots.
-fn put_head(out: &mut [u8], at: usize, a: Association) -> usize
-    ensures { Laid (head_text a) at out.old out.new result }
+fn put_head(text: &mut Text, a: &Association)
+    ensures { Put (head_text a.now) text.old text.new }
 {
-    let peer = a.peer;
-    let preferred = a.preferred;
-    let at = put_numbers(out, at, a);
-    let at = put_peer(out, at, peer);
-    let at = put_field(out, at, b" own ", a.next);
-    let at = put_preference(out, at, preferred);
-    put_word(out, at, b"\n")
+    put_numbers(text, a);
+    put_peer(text, a.peer);
+    text.put_field(b" own ", a.next);
+    put_preference(text, a.preferred);
+    text.put_word(b"\n");
 }
 
 // The state of an association.
-pub(crate) fn put_state(out: &mut [u8], at: usize, a: Association) -> usize
-    ensures { Laid (state_text a) at out.old out.new result }
+pub(crate) fn put_state(text: &mut Text, a: &Association)
+    ensures { Put (state_text a.now) text.old text.new }
 {
-    let slots = a.slots;
-    let at = put_head(out, at, a);
-    put_slots(out, at, slots)
+    put_head(text, a);
+    put_slots(text, &a.slots);
 }

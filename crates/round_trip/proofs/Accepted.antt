@@ -9,17 +9,17 @@ use borrow.Author.Tests.{ltb-false, eqb-false}
 use Rattle.boolean.proofs.Laws.{or_false_right}
 use Rattle.locator_set.specs.Sets.{set_limit}
 use Rattle.association.specs.declared.Association.{Association}
-use Rattle.association.specs.declared.Outcome.TheVariants.{Accepted}
 use Rattle.association.specs.Form.{id_limit}
 use Rattle.association.proofs.Sound.{sound}
 use Rattle.announcement.specs.declared.OwnLocator.{OwnLocator}
 use Rattle.announcement.specs.Announcements.{Announced, announced, handled}
 use Rattle.announcement.proofs.Ends.{Passed, announcement_ends}
+use Rattle.std.specs.Prelude.{Ok}
 
 module _ (a : Association) (list : List OwnLocator) (count inbound keymat room : ℕ) where
-  pub is_passed : (handled a list count inbound keymat room).outcome ≡ Accepted → Passed a list count inbound keymat room
+  pub is_passed : (handled a list count inbound keymat room).outcome ≡ (Ok tt) → Passed a list count inbound keymat room
   is_passed =
-      announcement_ends (λ (h : Announced). h.outcome ≡ Accepted → Passed a list count inbound keymat room) a
+      announcement_ends (λ (h : Announced). h.outcome ≡ (Ok tt) → Passed a list count inbound keymat room) a
       (λ n e. let z : ◌≡◌ {A = ℕ} 0 1 = cc in absurd (omega arith)) list count inbound keymat room (λ p e. p)
 
   pub passed_answer : Passed a list count inbound keymat room → handled a list count inbound keymat room ≡ announced a (take count list) inbound keymat

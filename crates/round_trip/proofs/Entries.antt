@@ -10,7 +10,8 @@ use native.Mathlib.Omega.{arith}
 use native.Mathlib.Numerals.{towards_suc}
 use borrow.Author.Tests.{ltb-true, ltb-false}
 use Rattle.boolean.proofs.Laws.{or_false_left, or_false_right}
-use Rattle.octets.specs.Records.{records, some}
+use Rattle.octets.specs.Records.{records}
+use Rattle.std.specs.List.{list_any}
 use Rattle.octets.specs.Written.{bytes_of, Octets}
 use Rattle.octets.proofs.ReadBack.{number_written}
 use Rattle.address.specs.Rules.{legal}
@@ -114,12 +115,12 @@ module _ (s : List ℕ) (o : Octets s) (new : ℕ) where
 
   -- what is asked of them
   pub record Fair (ats : List ℕ) : Type 0 where
-    pub good : some (illegal_at s) ats ≡ false
+    pub good : list_any (illegal_at s) ats ≡ false
     pub free : Each (Unreserved s) ats
     pub same : Each (λ (l : ListedLocator). l.kind ≡ spi_type → l.spi ≡ new) (map (listed_at s) ats)
 
   one_again : (at : ℕ) (ats : List ℕ) → Fair (at ∷ ats) → (Fair ats → drop (next_locator s at) s ≡ again ats) → drop at s ≡ again (at ∷ ats)
-  unfolding some Each set_body
+  unfolding Each set_body
   one_again at ats h rest =
       let good : illegal_at s at ≡ false = or_false_left (illegal_at s at) _ h.good in
       let n : ℕ = next_locator s at - at in

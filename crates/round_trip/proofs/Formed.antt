@@ -9,7 +9,7 @@ use lib.ListN.{length, length-append}
 use native.Mathlib.Omega.{arith}
 use borrow.Author.Tests.{le-ltb, eqb-true}
 use Rattle.boolean.proofs.Laws.{apart}
-use Rattle.octets.specs.Records.{some}
+use Rattle.std.specs.List.{list_any}
 use Rattle.parameter.specs.Types.{host_id, hip_mac, hip_signature, refused_type, wrong_length}
 use Rattle.parameter.specs.Parameters.{takes}
 use Rattle.parameter.specs.Written.{head_size}
@@ -43,7 +43,7 @@ formed_whole last (p ∷ ps) f = (f.0.whole, formed_whole p.kind ps f.1)
 -- refusal 3 does not refuse them where they lie within s
 none_ill : (s : List ℕ) (at last : ℕ) (ps : List WireParameter) → at + length (wires_bytes ps) ≤ length s → Formed last ps
     → ill_formed s last (placed at ps) ≡ false
-unfolding Formed placed some falls
+unfolding Formed placed falls
 none_ill s at last [] h f = refl
 none_ill s at last (p ∷ ps) h f =
     let next : ℕ = at + takes (length p.body) in
@@ -52,8 +52,8 @@ none_ill s at last (p ∷ ps) h f =
     ∙ rw (le-ltb (length s) next (omega arith), f.0.right, le-ltb p.kind last f.0.after) (none_ill s next p.kind ps (omega arith) f.1)
 
 -- nor does refusal 4
-none_refused : (at last : ℕ) (ps : List WireParameter) → Formed last ps → some refused (placed at ps) ≡ false
-unfolding Formed placed some
+none_refused : (at last : ℕ) (ps : List WireParameter) → Formed last ps → list_any refused (placed at ps) ≡ false
+unfolding Formed placed
 none_refused at last [] f = refl
 none_refused at last (p ∷ ps) f = rw f.0.known (none_refused (at + takes (length p.body)) p.kind ps f.1)
 
@@ -78,8 +78,7 @@ module _ (header : List ℕ) (ps : List WireParameter) (long : length header ≡
 
 -- ---- the parameters that may follow
 -- each is one of the three
-one_of : (P : ℕ → Type 0) (kind : ℕ) → P host_id → P hip_mac → P hip_signature → some (eqb kind) following ≡ true → P kind
-unfolding some
+one_of : (P : ℕ → Type 0) (kind : ℕ) → P host_id → P hip_mac → P hip_signature → list_any (eqb kind) following ≡ true → P kind
 one_of P kind x y z h = go (eqb kind host_id) (eqb kind hip_mac) (eqb kind hip_signature) refl refl refl h
   where
     go : (b c d : Bool) → eqb kind host_id ≡ b → eqb kind hip_mac ≡ c → eqb kind hip_signature ≡ d → (b || (c || (d || false))) ≡ true → P kind
@@ -90,7 +89,7 @@ one_of P kind x y z h = go (eqb kind host_id) (eqb kind hip_mac) (eqb kind hip_s
 
 -- refusals 3 and 4 let them follow
 pub tail_formed : (last : ℕ) (ps : List WireParameter) → Tail last ps → Formed last ps
-unfolding Tail Formed wrong_length refused_type some
+unfolding Tail Formed wrong_length refused_type
 tail_formed last [] t = tt
 tail_formed last (p ∷ ps) t =
     let len : ℕ = length p.body in (

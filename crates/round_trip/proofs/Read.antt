@@ -6,7 +6,6 @@ use mathlib.Core.List.{List, [], ◌∷◌, ◌++◌, append_assoc}
 use lib.ListN.{length, take, length-append}
 use native.Mathlib.Omega.{arith}
 use Rattle.octets.specs.Numbers.{number_at}
-use Rattle.octets.specs.Records.{some}
 use Rattle.octets.specs.Written.{bytes_of}
 use Rattle.octets.proofs.Sizes.{bytes_length}
 use Rattle.parameter.specs.Types.{esp_info, locator_set, seq, ack, echo_request_signed, echo_response_signed, refused_type, wrong_length}
@@ -15,11 +14,12 @@ use Rattle.frame.specs.Header.{header_size, header_holds}
 use Rattle.frame.specs.Parameters.{parameters}
 use Rattle.frame.specs.declared.Survey.{Survey}
 use Rattle.frame.specs.Survey.{never, occurs, survey_of}
-use Rattle.locator.specs.Locators.{places}
-use Rattle.locator_set.specs.Sets.{refusal6, listed_of, padded}
+use Rattle.locator_set.specs.Sets.{refusal6, accepted_set}
 use Rattle.packet.specs.declared.EchoResponse.TheVariants.{Absent}
 use Rattle.packet.specs.declared.Message.TheVariants.{Move}
-use Rattle.packet.specs.declared.Reading.{Reading}
+use Rattle.packet.specs.declared.Message.{Message}
+use Rattle.refusal.specs.declared.Refusal.{Refusal}
+use Rattle.std.specs.Prelude.{Ok, Result}
 use Rattle.packet.specs.Kinds.{is_move}
 use Rattle.packet.specs.Readings.{fields_of, set_bytes, move_of, reading_of}
 use Rattle.packet.proofs.Choices.{read_known, kind_move}
@@ -53,7 +53,7 @@ module _ (keymat old new id : ℕ) (set : List ℕ) where
   -- where they stand behind a header
   abbrev move_survey : Survey
   move_survey = record {
-    unknown = 0;
+    unknown = false;
     esp = record { times = 1; body = 44; len = 12 };
     set = record { times = 1; body = 60; len = length set };
     seq = record { times = 1; body = 56 + takes (length set) + 4; len = 4 };
@@ -73,7 +73,7 @@ module _ (keymat old new id : ℕ) (set : List ℕ) where
 
   module _ (small : length set < 2 ^ 16) (tail : List WireParameter) (follow : Tail seq tail) where
     move_formed : Formed 0 (three ++ tail)
-    unfolding Formed wrong_length refused_type some
+    unfolding Formed wrong_length refused_type
     move_formed =
         let first = esp_size keymat old new in
         let last = bytes_length 4 id in (
@@ -130,10 +130,10 @@ module _ (keymat old new id : ℕ) (set : List ℕ) where
           let z : at + 4 + 0 ≡ at + 4 = omega arith in
           rw z at (field_read packet at (written seq (bytes_of 4 id)) stand.1.1.0 4 id [] [] refl h)
 
-      fields_read : keymat < 2 ^ 16 → old < 2 ^ 32 → new < 2 ^ 32 → id < 2 ^ 32 → (count : ℕ)
-          → fields_of packet move_survey count ≡ record { keymat = keymat; old = old; new = new; id = id; count = count; echo = Absent }
+      fields_read : keymat < 2 ^ 16 → old < 2 ^ 32 → new < 2 ^ 32 → id < 2 ^ 32
+          → fields_of packet move_survey ≡ record { keymat = keymat; old = old; new = new; id = id; echo = Absent }
       unfolding bytes_of
-      fields_read k o n i count =
+      fields_read k o n i =
           rw (
             esp_field 2 keymat (bytes_of 2 0) (bytes_of 4 old ++ bytes_of 4 new) refl k,
             esp_field 4 old (bytes_of 2 0 ++ bytes_of 2 keymat) (bytes_of 4 new) refl o,
@@ -142,11 +142,8 @@ module _ (keymat old new id : ℕ) (set : List ℕ) where
           )
 
       -- the packet reads as a Move of these numbers and this set
-      abbrev the_move : Reading
-      the_move = record {
-        message = Move (record { keymat = keymat; old = old; new = new; id = id; count = length (places set); echo = Absent });
-        listed = padded (listed_of set);
-      }
+      abbrev the_move : Result Message Refusal
+      the_move = Ok (Move (record { keymat = keymat; old = old; new = new; id = id; echo = Absent }) (accepted_set set))
 
       is_move_lem : is_move move_survey ≡ true
       unfolding is_move
@@ -154,7 +151,7 @@ module _ (keymat old new id : ℕ) (set : List ℕ) where
 
       module _ (k : keymat < 2 ^ 16) (o : old < 2 ^ 32) (n : new < 2 ^ 32) (i : id < 2 ^ 32) (good : refusal6 set ≡ false) where
         as_move : move_of packet move_survey ≡ the_move
-        as_move = rw (set_read, good, fields_read k o n i (length (places set)))
+        as_move = rw (set_read, good, fields_read k o n i)
 
         move_read : header_holds packet ≡ true → reading_of packet ≡ the_move
         move_read rule =

@@ -8,7 +8,7 @@ use native.Mathlib.Omega.{arith}
 use borrow.Author.Tests.{le-ltb, ne_eqb}
 use Rattle.boolean.proofs.Laws.{or_false_left, or_false_right}
 use Rattle.octets.specs.Numbers.{number_at}
-use Rattle.octets.specs.Records.{some}
+use Rattle.std.specs.List.{list_any}
 use Rattle.octets.specs.Written.{bytes_of, Octets}
 use Rattle.octets.proofs.ReadBack.{number_written}
 use Rattle.parameter.specs.Types.{esp_info, locator_set, seq}
@@ -23,10 +23,10 @@ use Rattle.locator.specs.Locators.{places, illegal_at}
 use Rattle.locator_set.specs.Sets.{set_limit, listed_of}
 use Rattle.locator_set.proofs.Listing.{count_most, count_least, listed_first}
 use Rattle.packet.specs.declared.MoveFields.{MoveFields}
-use Rattle.packet.specs.Readings.{set_bytes, reading_of}
+use Rattle.packet.specs.Readings.{set_bytes}
+use Rattle.locator_set.specs.declared.LocatorSet.{LocatorSet}
 use Rattle.packet.proofs.Fields.{move_once, move_lengths, move_fits}
 use Rattle.association.specs.declared.Association.{Association}
-use Rattle.association.specs.declared.Outcome.TheVariants.{Accepted}
 use Rattle.association.specs.Form.{id_limit}
 use Rattle.reply_form.specs.Replies.{esp_info_with, seq_bytes}
 use Rattle.announcement.specs.declared.OwnLocator.{OwnLocator}
@@ -39,6 +39,7 @@ use Rattle.round_trip.proofs.Accepted.{passed_answer}
 use Rattle.round_trip.proofs.Moves.{ReadAs, read_as}
 use Rattle.round_trip.proofs.Parts.{octets_part, number_small, number_first, Held, first_held, whole_written}
 use Rattle.round_trip.proofs.Entries.{set_again}
+use Rattle.std.specs.Prelude.{Ok}
 
 -- the first so many of a list that is mapped
 take_map : (n : ℕ) (ls : List ListedLocator) → take n (map own_of ls) ≡ map own_of (take n ls)
@@ -57,7 +58,7 @@ esp_parts s at o h =
     ∙ rw (number_first s (at + 2) 2 8 o (omega arith), four, number_first s (at + 4) 4 4 o (omega arith), eight, number_written s (at + 8) 4 o (omega arith))
 
 -- ---- a packet that is read as a Move
-module _ (s : List ℕ) (m : MoveFields) (o : Octets s) (q : ReadAs s m) where
+module _ (s : List ℕ) (m : MoveFields) (found : LocatorSet) (o : Octets s) (q : ReadAs s m found) where
   abbrev seen : Survey
   seen = survey_of s
 
@@ -97,19 +98,19 @@ module _ (s : List ℕ) (m : MoveFields) (o : Octets s) (q : ReadAs s m) where
       )
 
   -- the list read is the set's
-  count_read : m.count ≡ length (places set)
-  count_read = ap (λ (x : MoveFields). x.count) q.fields
+  count_read : found.count ≡ length (places set)
+  count_read = ap (λ (x : LocatorSet). x.count) q.listed
 
-  list_read : take m.count (reading_of s).listed ≡ listed_of set
-  list_read = rw (count_read, q.listed) (listed_first set q.unrefused6)
+  list_read : take found.count found.listed ≡ listed_of set
+  list_read = rw q.listed (listed_first set q.unrefused6)
 
-  own_read : take m.count (own_list (reading_of s)) ≡ map own_of (listed_of set)
-  own_read = take_map m.count (reading_of s).listed ∙ ap (map own_of) list_read
+  own_read : take found.count (own_list found) ≡ map own_of (listed_of set)
+  own_read = take_map found.count found.listed ∙ ap (map own_of) list_read
 
 -- ---- announcing what was read
-module _ (s : List ℕ) (m : MoveFields) (a : Association) (room : ℕ) (h : Received s m a room) where
-  q : ReadAs s m
-  q = read_as s m h.move
+module _ (s : List ℕ) (m : MoveFields) (found : LocatorSet) (a : Association) (room : ℕ) (h : Received s m found a room) where
+  q : ReadAs s m found
+  q = read_as s m found h.move
 
   -- the list that is announced
   abbrev entries : List OwnLocator
@@ -122,44 +123,44 @@ module _ (s : List ℕ) (m : MoveFields) (a : Association) (room : ℕ) (h : Rec
       let ill = or_false_right (ltb set_limit (length (places set))) _ most in
       set_again set (octets_part s (survey_of s).set.body (survey_of s).set.len h.octets) m.new
       (record {
-        good = or_false_left (some (illegal_at set) (places set)) _ ill;
+        good = or_false_left (list_any (illegal_at set) (places set)) _ ill;
         free = h.locators_reserved;
-        same = rw (list_read s m h.octets q) at h.spis;
+        same = rw (list_read s m found h.octets q) at h.spis;
       })
 
   bytes_same : announcement_bytes a entries m.new m.keymat ≡ three_of s
   unfolding announcement_bytes
   bytes_same =
       let set : Occurrence = (survey_of s).set in
-      let esp = esp_again s m h.octets q h.esp_reserved in
+      let esp = esp_again s m found h.octets q h.esp_reserved in
       let set_bytes_lem : whole_of s set ≡ locator_set_bytes m.new entries =
-      whole_written s locator_set set h.octets (three_held s m h.octets q).1 h.padding ∙ ap (parameter_bytes locator_set) set_same in
-      let seq = seq_again s m h.octets q in
+      whole_written s locator_set set h.octets (three_held s m found h.octets q).1 h.padding ∙ ap (parameter_bytes locator_set) set_same in
+      let seq = seq_again s m found h.octets q in
       rw (h.inbound, h.next, esp, set_bytes_lem, seq)
 
-  accepted : Passed a (own_list (reading_of s)) m.count m.new m.keymat room
+  accepted : Passed a (own_list found) found.count m.new m.keymat room
   accepted =
       let set : List ℕ = set_bytes s (survey_of s) in
-      let count = count_read s m h.octets q in
+      let count = count_read s m found h.octets q in
       let least = count_least set q.unrefused6 in
       let most = count_most set q.unrefused6 in
-      let own = own_read s m h.octets q in
+      let own = own_read s m found h.octets q in
       let id : m.id ≡ number_at s (survey_of s).seq.body 4 = ap (λ (x : MoveFields). x.id) q.fields in
       let small = number_small s (survey_of s).seq.body 4 h.octets in
       record {
         sound = h.unrefused0;
-        few = rw (ne_eqb m.count 0 (λ z. omega arith)) (le-ltb set_limit m.count (omega arith));
+        few = rw (ne_eqb found.count 0 (λ z. omega arith)) (le-ltb set_limit found.count (omega arith));
         well = rw (own, ← set_same) q.unrefused6;
         usable = h.usable;
         id_left = ne_eqb a.next id_limit (λ z. omega (arith, h.next));
         room_left = rw (own, bytes_same) (le-ltb room (length (three_of s)) h.long_enough);
       }
 
-  written_again_lem : announced_again s m a room ≡ written_again s m a
+  written_again_lem : announced_again m found a room ≡ written_again s m a
   written_again_lem =
-      passed_answer a (own_list (reading_of s)) m.count m.new m.keymat room accepted
-      ∙ ap (λ (es : List OwnLocator). announced a es m.new m.keymat) (own_read s m h.octets q)
-      ∙ ap (λ (l : List ℕ). record { outcome = Accepted; bytes = l; left = after_announcement a m.new }) bytes_same
+      passed_answer a (own_list found) found.count m.new m.keymat room accepted
+      ∙ ap (λ (es : List OwnLocator). announced a es m.new m.keymat) (own_read s m found h.octets q)
+      ∙ ap (λ (l : List ℕ). record { outcome = (Ok tt); bytes = l; left = after_announcement a m.new }) bytes_same
 
 -- "Writing what was read gives the same bytes."
 pub writing_what_was_read : GivesTheSameBytes

@@ -1,10 +1,10 @@
 -- The premises of both laws can be met: an announcement of three locators that is sent with parameters after it, and a packet in hex, copied by hand from the
 -- layouts of RFC 7401, 7402 and 8046, in which the three parameters are no neighbours.
-use Rattle.std.specs.Prelude.{ℕ, zero, suc, ◌<◌, ◌≡◌, refl, Bool, true, false, cond, List, [], ◌∷◌, ◌++◌, map, leb, get_or, replicate}
+use Rattle.std.specs.Prelude.{ℕ, zero, suc, ◌<◌, ◌≡◌, refl, Bool, true, false, cond, List, [], ◌∷◌, ◌++◌, map, leb, get_or, replicate, take}
 use Prim.Native.String.{String}
 use Rattle.std.proofs.Common.{arith, leb-false}
 use Rattle.octets.specs.ExamplesHex.{hex}
-use Rattle.octets.specs.Records.{records, some}
+use Rattle.octets.specs.Records.{records}
 use Rattle.octets.specs.Written.{bytes_of, Octets}
 use Rattle.address.specs.declared.Address.{Address}
 use Rattle.address.specs.Rules.{legal}
@@ -14,9 +14,10 @@ use Rattle.frame.specs.Parameters.{falls}
 use Rattle.frame.specs.Survey.{occurs}
 use Rattle.locator.specs.Locators.{ill_form}
 use Rattle.locator_set.specs.Sets.{twice, marks, blank}
-use Rattle.slots.specs.Rules.{clashing}
 use Rattle.slot.specs.Clashes.{clash}
 use Rattle.packet.specs.declared.EchoResponse.TheVariants.{Absent}
+use Rattle.locator_set.specs.declared.LocatorSet.{LocatorSet}
+use Rattle.announcement.specs.Listed.{as_listed}
 use Rattle.packet.specs.declared.MoveFields.{MoveFields}
 use Rattle.packet.specs.Kinds.{is_move}
 use Rattle.packet.specs.Readings.{kind_of, reading_of}
@@ -73,11 +74,11 @@ written =
     ++ hex "01810004 00000000")))
 
 sent_bytes_lem : sent_packet ours entries 3 0x1002 0x203 112 (header "15") following ≡ header "15" ++ (written ++ hex "02c10003 010203ff f0410004 01020304 f1010004 05060708")
-unfolding handled announcement_bytes set_body entry_bytes parameter_bytes bytes_of wires_bytes wire_bytes refusal0 clashing clash records some ill_form legal twice marks
+unfolding handled announcement_bytes set_body entry_bytes parameter_bytes bytes_of wires_bytes wire_bytes refusal0 clash records ill_form legal twice marks
 sent_bytes_lem = refl
 
 sent : Sent ours entries 3 0x1002 0x203 112 (header "15") following
-unfolding handled announcement_bytes set_body entry_bytes parameter_bytes bytes_of wires_bytes wire_bytes refusal0 clashing clash records some ill_form legal twice marks AllSized Tail
+unfolding handled announcement_bytes set_body entry_bytes parameter_bytes bytes_of wires_bytes wire_bytes refusal0 clash records ill_form legal twice marks AllSized Tail
 sent = record {
   accepted = refl;
   sized = omega arith;
@@ -108,7 +109,11 @@ packet =
 
 -- what is read of it
 abbrev fields : MoveFields
-fields = record { keymat = 0x203; old = 0x1001; new = 0x1002; id = 0; count = 3; echo = Absent }
+fields = record { keymat = 0x203; old = 0x1001; new = 0x1002; id = 0; echo = Absent }
+
+-- and the set
+abbrev read : LocatorSet
+read = record { listed = map (as_listed 0x1002) (take 3 entries) ++ replicate 5 blank; count = 3 }
 
 -- its three parameters are what we write for it
 three_bytes : three_of packet ≡ written
@@ -130,8 +135,8 @@ bytes (x ∷ s) h i = go (leb 256 x) refl (bytes s) h i
     go false e rest h zero = leb-false 256 x e
     go false e rest h (suc i) = rest h i
 
-received : Received packet fields ours 112
-unfolding small reading_of kind_of is_move records some falls occurs refused_type wrong_length ill_form legal twice marks refusal0 clashing clash Each
+received : Received packet fields read ours 112
+unfolding small reading_of kind_of is_move records falls occurs refused_type wrong_length ill_form legal twice marks refusal0 clash Each
 received = record {
   octets = bytes packet refl;
   move = refl;

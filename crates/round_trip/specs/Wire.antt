@@ -1,6 +1,6 @@
 -- Parameters as they stand on the wire, one after another: a sender may pad with any bytes. The words in quotation marks are law 1's, in `Read.antt`.
 use Rattle.std.specs.Prelude.{ℕ, ◌+◌, ◌^◌, ◌<◌, ◌≤◌, ◌≡◌, true, List, [], ◌∷◌, ◌++◌, map, eqb, length}
-use Rattle.octets.specs.Records.{some}
+use Rattle.std.specs.List.{list_any}
 use Rattle.octets.specs.Written.{bytes_of, joined}
 use Rattle.parameter.specs.Types.{host_id, hip_mac, hip_signature}
 use Rattle.parameter.specs.Parameters.{takes}
@@ -36,7 +36,7 @@ pub record Follows (last : ℕ) (p : WireParameter) : Type 0 where
   -- "types do not fall"
   pub after : last ≤ p.kind
   -- "each one of these three"
-  pub type : some (eqb p.kind) following ≡ true
+  pub type : list_any (eqb p.kind) following ≡ true
 
 -- "any tail of whole parameters whose types do not fall, each one of these three", after one of type `last`
 unfoldable pub Tail : (last : ℕ) → List WireParameter → Type 0

@@ -3,7 +3,7 @@
 -- it: announcing the list read, with the NEW SPI and KEYMAT Index read, from any association that refusal 0 does not refuse whose inbound SPI and next own ID are
 -- the OLD SPI and ID read, into any buffer long enough, is accepted and writes the packet's three parameters, one after another (they need not be neighbours in
 -- the packet). The claim and its premises; `proofs/Written.antt` proves it.
-use Rattle.std.specs.Prelude.{ℕ, ◌+◌, ◌-◌, ◌<◌, ◌≤◌, ◌≡◌, false, List, ◌++◌, map, length, get_or, take, drop}
+use Rattle.std.specs.Prelude.{ℕ, ◌+◌, ◌-◌, ◌<◌, ◌≤◌, ◌≡◌, false, List, ◌++◌, map, length, get_or, take, drop, Ok}
 use Rattle.octets.specs.Numbers.{number_at}
 use Rattle.octets.specs.Written.{Octets}
 use Rattle.parameter.specs.Parameters.{takes}
@@ -12,12 +12,11 @@ use Rattle.frame.specs.declared.Occurrence.{Occurrence}
 use Rattle.frame.specs.Survey.{survey_of}
 use Rattle.locator.specs.declared.ListedLocator.{ListedLocator}
 use Rattle.locator.specs.Locators.{spi_type, places}
+use Rattle.locator_set.specs.declared.LocatorSet.{LocatorSet}
 use Rattle.packet.specs.declared.MoveFields.{MoveFields}
 use Rattle.packet.specs.declared.Message.TheVariants.{Move}
-use Rattle.packet.specs.declared.Reading.{Reading}
 use Rattle.packet.specs.Readings.{set_bytes, reading_of}
 use Rattle.association.specs.declared.Association.{Association}
-use Rattle.association.specs.declared.Outcome.TheVariants.{Accepted}
 use Rattle.association.specs.Form.{refusal0}
 use Rattle.association.specs.Start.{unusable_spi}
 use Rattle.announcement.specs.declared.OwnLocator.{OwnLocator}
@@ -46,20 +45,20 @@ Unreserved set at = get_or set (at + 3) 0 < 2
 abbrev pub own_of : ListedLocator → OwnLocator
 own_of l = record { address = l.address; lifetime = l.lifetime; kind = l.kind; traffic = l.traffic; preferred = l.preferred }
 
--- its eight entries, of which the first so many as the Move counts are announced
-abbrev pub own_list : Reading → List OwnLocator
-own_list r = map own_of r.listed
+-- its eight entries, of which the first so many as the set counts are announced
+abbrev pub own_list : LocatorSet → List OwnLocator
+own_list set = map own_of set.listed
 
 -- ---- the law
 -- announcing what was read, "with the NEW SPI and KEYMAT Index read"
-abbrev pub announced_again : List ℕ → MoveFields → Association → (room : ℕ) → Announced
-announced_again s m a room = handled a (own_list (reading_of s)) m.count m.new m.keymat room
+abbrev pub announced_again : MoveFields → LocatorSet → Association → (room : ℕ) → Announced
+announced_again m set a room = handled a (own_list set) set.count m.new m.keymat room
 
 -- the premises: of a packet s, what is read of it, an association and the length of a buffer
-pub record Received (s : List ℕ) (m : MoveFields) (a : Association) (room : ℕ) : Type 0 where
+pub record Received (s : List ℕ) (m : MoveFields) (set : LocatorSet) (a : Association) (room : ℕ) : Type 0 where
   pub octets : Octets s
   -- "every packet that reads as a Move"
-  pub move : (reading_of s).message ≡ Move m
+  pub move : reading_of s ≡ Ok (Move m set)
   -- "where ESP_INFO's reserved bits, every locator's reserved bits and the set's padding are zero"
   pub esp_reserved : number_at s (survey_of s).esp.body 2 ≡ 0
   pub locators_reserved : Each (Unreserved (set_bytes s (survey_of s))) (places (set_bytes s (survey_of s)))
@@ -67,7 +66,7 @@ pub record Received (s : List ℕ) (m : MoveFields) (a : Association) (room : �
   -- "NEW SPI is one we may announce"
   pub usable : unusable_spi m.new ≡ false
   -- "and each type 1 SPI equals it"
-  pub spis : Each (λ (l : ListedLocator). l.kind ≡ spi_type → l.spi ≡ m.new) (take m.count (reading_of s).listed)
+  pub spis : Each (λ (l : ListedLocator). l.kind ≡ spi_type → l.spi ≡ m.new) (take set.count set.listed)
   -- "from any association that refusal 0 does not refuse"
   pub unrefused0 : refusal0 a ≡ false
   -- "whose inbound SPI and next own ID are the OLD SPI and ID read"
@@ -78,9 +77,9 @@ pub record Received (s : List ℕ) (m : MoveFields) (a : Association) (room : �
 
 -- "is accepted and writes the packet's three parameters": and the association is left as by any announcement
 abbrev pub written_again : List ℕ → MoveFields → Association → Announced
-written_again s m a = record { outcome = Accepted; bytes = three_of s; left = after_announcement a m.new }
+written_again s m a = record { outcome = (Ok tt); bytes = three_of s; left = after_announcement a m.new }
 
 -- "Writing what was read gives the same bytes."
 abbrev pub GivesTheSameBytes : Type 0
 GivesTheSameBytes =
-    (s : List ℕ) (m : MoveFields) (a : Association) (room : ℕ) → Received s m a room → announced_again s m a room ≡ written_again s m a
+    (s : List ℕ) (m : MoveFields) (set : LocatorSet) (a : Association) (room : ℕ) → Received s m set a room → announced_again m set a room ≡ written_again s m a

@@ -1,10 +1,9 @@
 -- Worked examples, computed from the definitions: records in hex.
-use Rattle.std.specs.Prelude.{ℕ, ◌+◌, ◌≡◌, refl, List, [], ◌∷◌, ◌++◌, map}
+use Rattle.std.specs.Prelude.{ℕ, ◌+◌, ◌≡◌, refl, None, Some, List, [], ◌∷◌, ◌++◌, map}
 use Rattle.std.specs.Borrow.{Bor}
 use Rattle.octets.specs.ExamplesHex.{hex}
 use Rattle.octets.specs.Written.{bytes_of}
 use Rattle.sections.specs.declared.Section.{Section}
-use Rattle.sections.specs.declared.SectionStep.TheVariants.{Present, Cut}
 use Rattle.sections.specs.declared.RecordStep.TheVariants.{Whole, Torn, End}
 use Rattle.sections.specs.Records.{count_size, size_of, bytes_in, Part, section_step_at, next_of, record_at, record_step_at}
 use Rattle.sections.specs.Written.{section_bytes, record_bytes}
@@ -24,7 +23,7 @@ written = (refl, refl)
 
 -- a section at each place: it may end with the bytes, and not past them; a count that is cut is 0
 cuts : map (section_step_at bytes) (0 ∷ 4 ∷ 6 ∷ 9 ∷ 11 ∷ 12 ∷ [])
-    ≡ Present (from 2 4) ∷ Present (from 6 6) ∷ Present (from 8 9) ∷ Present (from 11 12) ∷ Cut ∷ Cut ∷ []
+    ≡ Some (from 2 4) ∷ Some (from 6 6) ∷ Some (from 8 9) ∷ Some (from 11 12) ∷ None ∷ None ∷ []
 unfolding section_step_at
 cuts = refl
 

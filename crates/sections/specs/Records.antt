@@ -1,11 +1,9 @@
 -- A run of records. Each is three sections, one after another, and each section stands after its count of bytes, a number of 16 bits.
-use Rattle.std.specs.Prelude.{ℕ, ◌+◌, ◌-◌, min, ◌≡◌, cond, List, ltb, leb, length, take, drop}
+use Rattle.std.specs.Prelude.{ℕ, ◌+◌, ◌-◌, min, ◌≡◌, cond, Option, None, Some, List, ltb, leb, length, take, drop}
 use Rattle.std.specs.Borrow.{Bor}
 use Rattle.octets.specs.Numbers.{number_at}
 use Rattle.sections.specs.declared.Section.{Section}
 use Rattle.sections.specs.declared.Record.{Record}
-use Rattle.sections.specs.declared.SectionStep.{SectionStep}
-use Rattle.sections.specs.declared.SectionStep.TheVariants.{Present, Cut}
 use Rattle.sections.specs.declared.RecordStep.{RecordStep}
 use Rattle.sections.specs.declared.RecordStep.TheVariants.{Whole, Torn, End}
 
@@ -32,8 +30,8 @@ abbrev pub section_at : List ℕ → ℕ → Section
 section_at s at = record { start = at + count_size; end = at + count_size + number_at s at count_size }
 
 -- the section at `at`, where the bytes do not end before it does
-unfoldable pub section_step_at : List ℕ → ℕ → SectionStep
-section_step_at s at = cond (ltb (length s) (section_at s at).end) Cut (Present (section_at s at))
+unfoldable pub section_step_at : List ℕ → ℕ → Option Section
+section_step_at s at = cond (ltb (length s) (section_at s at).end) None (Some (section_at s at))
 
 -- the record at `at`: three sections, each where the one before it ends
 abbrev pub record_at : List ℕ → ℕ → Record

@@ -4,7 +4,7 @@ use Rattle.locator.specs.declared.ListedLocator.{ListedLocator}
 use Rattle.slot.specs.declared.Status.TheVariants.{Active}
 use Rattle.slot.specs.declared.Slot.{Slot}
 use Rattle.slot.specs.Found.{slot_of}
-use Rattle.readdress.specs.Steps.{entry_for, renew_all}
+use Rattle.readdress.specs.Steps.{renew_all}
 use Rattle.settle.specs.Renewed.{renewed_at}
 
 -- an entry for address 1, for data and 60 seconds
@@ -18,5 +18,5 @@ holding traffic expiry = slot_of (record { address = record { high = 1; low = 1 
 -- "time below 2^40"
 times : map (λ (time : ℕ). renewed_at time (entry ∷ []) (holding 0 130 ∷ [])) (100 ∷ 1099511627775 ∷ 1099511627776 ∷ [])
     ≡ (holding 2 160 ∷ []) ∷ (holding 2 1099511627835 ∷ []) ∷ (holding 0 130 ∷ []) ∷ []
-unfolding renew_all entry_for
+unfolding renew_all
 times = refl

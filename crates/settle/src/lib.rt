@@ -1,172 +1,115 @@
-// Steps 2, 3 and 4 of a Move: what becomes of the locators that are held. Depends on listed, readdress, credit, slots and slot.
+// Steps 2, 3 and 4 of a Move: what becomes of the locators that are held. Depends on listed, readdress, credit and slot.
 #![tactic(auto)]
 
-ghost use Rattle.std.specs.Prelude.{◌≡◌, map, ◌<◌, take};
+ghost use Rattle.std.specs.Prelude.{◌≡◌, map, ◌<◌};
 ghost use Rattle.credit.specs.Clock.{time_limit};
 ghost use Rattle.slot.specs.Found.{on_locator};
 ghost use Rattle.readdress.specs.Steps as steps;
 ghost use Rattle.settle.specs.Renewed.{renewed_at};
 
+use address::Address;
 use credit::TIME_LIMIT;
 use locator::ListedLocator;
-use locator_set::SET_LIMIT;
-use slot::{Holding, Locator, SLOT_COUNT, Slot, Status};
+use slot::{Locator, SLOT_COUNT, Slot, Status};
 
 // The slot with its locator DEPRECATED.
 fn deprecate_slot(slot: Slot) -> Slot
     ensures { result ≡ on_locator steps.deprecate slot }
 {
-    let holding = slot.holding;
-    match holding {
-        Holding::Empty => slot,
-        Holding::Held(l) => Slot {
-            holding: Holding::Held(slot::with_status(l, Status::Deprecated)),
-        },
+    Slot {
+        holding: slot
+            .holding
+            .map(|l| slot::with_status(l, Status::Deprecated)),
     }
 }
 
-// All the slots so.
-fn deprecate_all(slots: [Slot; SLOT_COUNT]) -> [Slot; SLOT_COUNT]
-    ensures { result ≡ map (on_locator steps.deprecate) slots }
-{
-    let mut held = slots;
-    let mut i: usize = 0;
-    while i < SLOT_COUNT {
-        let slot = held[i];
-        held[i] = deprecate_slot(slot);
-        i += 1;
-    }
-    held
-}
-
-// Step 2: where NEW SPI differs, no locator that is held is bound to it.
+// Step 2: where NEW SPI differs, no locator that is held is bound to it. Whether it does is an argument of the definition too.
 #[tactic(auto, unfolding(readdress::specs::Steps::rebind))]
-pub fn rebind(slots: [Slot; SLOT_COUNT], differs: bool) -> [Slot; SLOT_COUNT]
-    ensures { result ≡ steps.rebind differs slots }
+pub fn rebind(slots: &mut [Slot; SLOT_COUNT], differs: bool)
+    ensures { slots.new ≡ steps.rebind differs slots.old }
 {
     if differs {
-        return deprecate_all(slots);
+        for slot in slots.iter_mut() {
+            *slot = deprecate_slot(*slot);
+        }
     }
-    slots
 }
 
-// A locator by the set's entry for its address: the new traffic type and expiry.
-fn renew(l: Locator, time: u64, listed: [ListedLocator; SET_LIMIT], count: usize) -> Locator
-    requires { time < time_limit }
-    ensures { result ≡ steps.renew time (take count listed) l }
+// The entry of the set that lists the address.
+fn entry_for(listed: &[ListedLocator], address: Address) -> Option<ListedLocator>
+    ensures { result ≡ steps.entry_for address listed.now }
 {
-    let set = listed;
-    let address = l.address;
-    let mut i: usize = 0;
-    while i < SET_LIMIT {
-        if count <= i {
-            return l;
-        }
-        let entry = set[i];
-        let other = entry.address;
-        if address::same(address, other) {
-            let status = l.status;
-            return Locator {
-                address,
-                traffic: entry.traffic,
-                expiry: time + entry.lifetime as u64,
-                status,
-            };
-        }
-        i += 1;
+    listed
+        .iter()
+        .copied()
+        .find(|entry| address == entry.address)
+}
+
+// A locator by the set's entry for its address: the new traffic type and expiry. That the time is below its limit, so that the sum fits, is tested once, in
+// `renew_all`; a type for it would serve two functions here and two in `place`, and be taken apart in each.
+fn renew(l: Locator, time: u64, listed: &[ListedLocator]) -> Locator
+    requires { time < time_limit }
+    ensures { result ≡ steps.renew time listed.now l }
+{
+    match entry_for(listed, l.address) {
+        None => l,
+        Some(entry) => Locator {
+            traffic: entry.traffic,
+            expiry: time + u64::from(entry.lifetime),
+            ..l
+        },
     }
-    l
 }
 
 // The slot with its locator so.
-fn renew_slot(slot: Slot, time: u64, listed: [ListedLocator; SET_LIMIT], count: usize) -> Slot
+fn renew_slot(slot: Slot, time: u64, listed: &[ListedLocator]) -> Slot
     requires { time < time_limit }
-    ensures { result ≡ on_locator (steps.renew time (take count listed)) slot }
+    ensures { result ≡ on_locator (steps.renew time listed.now) slot }
 {
-    let holding = slot.holding;
-    match holding {
-        Holding::Empty => slot,
-        Holding::Held(l) => Slot {
-            holding: Holding::Held(renew(l, time, listed, count)),
-        },
+    Slot {
+        holding: slot.holding.map(|l| renew(l, time, listed)),
     }
-}
-
-// All the slots so.
-#[tactic(auto, unfolding(readdress::specs::Steps::renew_all))]
-fn renew_each(
-    slots: [Slot; SLOT_COUNT],
-    time: u64,
-    listed: [ListedLocator; SET_LIMIT],
-    count: usize,
-) -> [Slot; SLOT_COUNT]
-    requires { time < time_limit }
-    ensures { result ≡ steps.renew_all time (take count listed) slots }
-{
-    let mut held = slots;
-    let mut i: usize = 0;
-    while i < SLOT_COUNT {
-        let slot = held[i];
-        held[i] = renew_slot(slot, time, listed, count);
-        i += 1;
-    }
-    held
 }
 
 // Step 3: the listed locators that are held. A time that no association has leaves the slots as they are.
-pub fn renew_all(
-    slots: [Slot; SLOT_COUNT],
-    time: u64,
-    listed: [ListedLocator; SET_LIMIT],
-    count: usize,
-) -> [Slot; SLOT_COUNT]
-    ensures { result ≡ renewed_at time (take count listed) slots }
+#[tactic(auto, unfolding(readdress::specs::Steps::renew_all))]
+pub fn renew_all(slots: &mut [Slot; SLOT_COUNT], time: u64, listed: &[ListedLocator])
+    ensures { slots.new ≡ renewed_at time listed.now slots.old }
 {
     if time < TIME_LIMIT {
-        return renew_each(slots, time, listed, count);
+        for slot in slots.iter_mut() {
+            *slot = renew_slot(*slot, time, listed);
+        }
     }
-    slots
 }
 
 // A locator that the set does not list turns DEPRECATED.
-fn retire(l: Locator, listed: [ListedLocator; SET_LIMIT], count: usize) -> Locator
-    ensures { result ≡ steps.retire (take count listed) l }
+fn retire(l: Locator, listed: &[ListedLocator]) -> Locator
+    ensures { result ≡ steps.retire listed.now l }
 {
-    let address = l.address;
-    if listed::is_listed(listed, count, address) {
-        return l;
+    if listed::is_listed(listed, l.address) {
+        l
+    } else {
+        slot::with_status(l, Status::Deprecated)
     }
-    slot::with_status(l, Status::Deprecated)
 }
 
 // The slot with its locator so.
-fn retire_slot(slot: Slot, listed: [ListedLocator; SET_LIMIT], count: usize) -> Slot
-    ensures { result ≡ on_locator (steps.retire (take count listed)) slot }
+fn retire_slot(slot: Slot, listed: &[ListedLocator]) -> Slot
+    ensures { result ≡ on_locator (steps.retire listed.now) slot }
 {
-    let holding = slot.holding;
-    match holding {
-        Holding::Empty => slot,
-        Holding::Held(l) => Slot {
-            holding: Holding::Held(retire(l, listed, count)),
-        },
+    Slot {
+        holding: slot.holding.map(|l| retire(l, listed)),
     }
 }
 
-// Step 4: the locators that are held and not listed turn DEPRECATED.
+// Step 4: the locators that are held and not listed turn DEPRECATED. Each sweep over the slots, here and in `verify` and `slots`, is a loop of three lines, which
+// is as plain as a call with a closure and needs no contract over every change that a closure computes.
 #[tactic(auto, unfolding(readdress::specs::Steps::retire_all))]
-pub fn retire_all(
-    slots: [Slot; SLOT_COUNT],
-    listed: [ListedLocator; SET_LIMIT],
-    count: usize,
-) -> [Slot; SLOT_COUNT]
-    ensures { result ≡ steps.retire_all (take count listed) slots }
+pub fn retire_all(slots: &mut [Slot; SLOT_COUNT], listed: &[ListedLocator])
+    ensures { slots.new ≡ steps.retire_all listed.now slots.old }
 {
-    let mut held = slots;
-    let mut i: usize = 0;
-    while i < SLOT_COUNT {
-        let slot = held[i];
-        held[i] = retire_slot(slot, listed, count);
-        i += 1;
+    for slot in slots.iter_mut() {
+        *slot = retire_slot(*slot, listed);
     }
-    held
 }

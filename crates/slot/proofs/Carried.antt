@@ -10,13 +10,12 @@ use Rattle.slot.specs.declared.Check.{Check}
 use Rattle.slot.specs.declared.Status.{Status}
 use Rattle.slot.specs.declared.Status.TheVariants.{Unverified, Active, Deprecated}
 use Rattle.slot.specs.declared.Locator.{Locator}
-use Rattle.slot.specs.declared.Holding.{Holding}
-use Rattle.slot.specs.declared.Holding.TheVariants.{Empty, Held}
 use Rattle.slot.specs.declared.Slot.{Slot}
 use Rattle.slot.specs.Found.{with_status, on_held, on_locator, status_of, is_unverified, found_as, held_as}
 use Rattle.slot.specs.Checks.{given_up, resent, resend_status, resend_slot}
 use Rattle.slot.specs.Expiry.{is_over, expire_held, expire_slot}
 use Rattle.slot.proofs.Settled.{Settles}
+use Rattle.std.specs.Prelude.{None, Option, Some}
 
 -- P holds of the check of this status
 abbrev pub CarriedBy : (Check → Type 0) → Status → Type 0
@@ -25,9 +24,9 @@ CarriedBy P Active = Unit {0}
 CarriedBy P Deprecated = Unit {0}
 
 -- of what is held
-abbrev pub HeldBy : (Check → Type 0) → Holding → Type 0
-HeldBy P Empty = Unit {0}
-HeldBy P (Held l) = CarriedBy P l.status
+abbrev pub HeldBy : (Check → Type 0) → Option Locator → Type 0
+HeldBy P None = Unit {0}
+HeldBy P (Some l) = CarriedBy P l.status
 
 -- of a slot
 abbrev pub Carries : (Check → Type 0) → Slot → Type 0
@@ -46,9 +45,9 @@ module _ (test : Status → Bool) (active : test Active ≡ false) (deprecated :
       status Active q = tt
       status Deprecated q = tt
 
-      go : (h : Holding) → found_as test (status_of h) ≡ false → HeldBy (Fails test) h
-      go Empty q = tt
-      go (Held l) q = status l.status q
+      go : (h : Option Locator) → found_as test (status_of h) ≡ false → HeldBy (Fails test) h
+      go None q = tt
+      go (Some l) q = status l.status q
 
   pub carries_fails : (s : Slot) → Carries (Fails test) s → held_as test s ≡ false
   carries_fails s p = go s.holding p
@@ -58,9 +57,9 @@ module _ (test : Status → Bool) (active : test Active ≡ false) (deprecated :
       status Active q = active
       status Deprecated q = deprecated
 
-      go : (h : Holding) → HeldBy (Fails test) h → found_as test (status_of h) ≡ false
-      go Empty q = refl
-      go (Held l) q = status l.status q
+      go : (h : Option Locator) → HeldBy (Fails test) h → found_as test (status_of h) ≡ false
+      go None q = refl
+      go (Some l) q = status l.status q
 
 module _ (P : Check → Type 0) where
   -- a status without a check carries none
@@ -77,9 +76,9 @@ module _ (P : Check → Type 0) where
       kept l (inl e) q = rw e q
       kept l (inr e) q = checkless (change l).status e
 
-      go : (h : Holding) → HeldBy P h → HeldBy P (on_held change h)
-      go Empty q = tt
-      go (Held l) q = kept l (settles.status l) q
+      go : (h : Option Locator) → HeldBy P h → HeldBy P (on_held change h)
+      go None q = tt
+      go (Some l) q = kept l (settles.status l) q
 
   -- what implies it
   pub carries_imply : (Q : Check → Type 0) → ((k : Check) → P k → Q k) → (s : Slot) → Carries P s → Carries Q s
@@ -90,9 +89,9 @@ module _ (P : Check → Type 0) where
       status Active q = tt
       status Deprecated q = tt
 
-      go : (g : Holding) → HeldBy P g → HeldBy Q g
-      go Empty q = tt
-      go (Held l) q = status l.status q
+      go : (g : Option Locator) → HeldBy P g → HeldBy Q g
+      go None q = tt
+      go (Some l) q = status l.status q
 
   -- after expiry no check is left that is given up
   pub expired_carries : (time : ℕ) (s : Slot) → Carries P s → Carries (λ (k : Check). P k × (is_given_up k.issued time ≡ false)) (expire_slot time s)
@@ -108,9 +107,9 @@ module _ (P : Check → Type 0) where
       held l true e q = tt
       held l false e q = status l.status (or_false_right (leb l.expiry time) (given_up time l.status) e) q
 
-      go : (h : Holding) → HeldBy P h → HeldBy (λ (k : Check). P k × (is_given_up k.issued time ≡ false)) (expire_held time h)
-      go Empty q = tt
-      go (Held l) q = held l (is_over time l) refl q
+      go : (h : Option Locator) → HeldBy P h → HeldBy (λ (k : Check). P k × (is_given_up k.issued time ≡ false)) (expire_held time h)
+      go None q = tt
+      go (Some l) q = held l (is_over time l) refl q
 
   -- a resend changes the count alone
   pub resent_carries : (time : ℕ) → ((k : Check) → P k → P (resent time k)) → (s : Slot) → Carries P s → Carries P (resend_slot time s)
@@ -125,6 +124,6 @@ module _ (P : Check → Type 0) where
       status Active q = tt
       status Deprecated q = tt
 
-      go : (h : Holding) → HeldBy P h → HeldBy P (resend_slot time (record { holding = h })).holding
-      go Empty q = tt
-      go (Held l) q = status l.status q
+      go : (h : Option Locator) → HeldBy P h → HeldBy P (resend_slot time (record { holding = h })).holding
+      go None q = tt
+      go (Some l) q = status l.status q

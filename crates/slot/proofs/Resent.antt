@@ -6,13 +6,13 @@ use Rattle.check_times.specs.Times.{is_due}
 use Rattle.slot.specs.declared.Check.{Check}
 use Rattle.slot.specs.declared.Status.{Status}
 use Rattle.slot.specs.declared.Status.TheVariants.{Unverified, Active, Deprecated}
-use Rattle.slot.specs.declared.Holding.{Holding}
-use Rattle.slot.specs.declared.Holding.TheVariants.{Empty, Held}
 use Rattle.slot.specs.declared.Slot.{Slot}
 use Rattle.slot.specs.Found.{on_held}
 use Rattle.slot.specs.Clashes.{same_nonce, clash_held, clash}
 use Rattle.slot.specs.Checks.{resent, resend_status, resend_locator, resend_slot}
 use Rattle.slot.proofs.Settled.{Clear}
+use Rattle.std.specs.Prelude.{None, Option, Some}
+use Rattle.slot.specs.declared.Locator.{Locator}
 
 module _ (time : ℕ) where
   checks_same : (k m : Check) (b c : Bool) →
@@ -39,7 +39,7 @@ module _ (time : ℕ) where
   unfolding clash
   resent_clear x y p = go x.holding y.holding p
     where
-      go : (h g : Holding) → clash_held h g ≡ false → clash_held (on_held (resend_locator time) h) (on_held (resend_locator time) g) ≡ false
-      go Empty g p = refl
-      go (Held l) Empty p = refl
-      go (Held l) (Held m) p = rw (nonces_same l.status m.status) p
+      go : (h g : Option Locator) → clash_held h g ≡ false → clash_held (on_held (resend_locator time) h) (on_held (resend_locator time) g) ≡ false
+      go None g p = refl
+      go (Some l) None p = refl
+      go (Some l) (Some m) p = rw (nonces_same l.status m.status) p

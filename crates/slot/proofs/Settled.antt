@@ -10,11 +10,10 @@ use Rattle.address.proofs.Equal.{same_turned}
 use Rattle.slot.specs.declared.Status.{Status}
 use Rattle.slot.specs.declared.Status.TheVariants.{Unverified, Active, Deprecated}
 use Rattle.slot.specs.declared.Locator.{Locator}
-use Rattle.slot.specs.declared.Holding.{Holding}
-use Rattle.slot.specs.declared.Holding.TheVariants.{Empty, Held}
 use Rattle.slot.specs.declared.Slot.{Slot}
 use Rattle.slot.specs.Found.{on_held, on_locator, is_unverified, is_nonce, held_as}
 use Rattle.slot.specs.Clashes.{same_nonce, clash_held, clash}
+use Rattle.std.specs.Prelude.{None, Option, Some}
 
 pub record Settles (change : Locator → Locator) : Type 0 where
   pub address : (l : Locator) → (change l).address ≡ l.address
@@ -50,11 +49,11 @@ pub clear_turned : (x y : Slot) → Clear x y → Clear y x
 unfolding clash
 clear_turned x y p = go x.holding y.holding p
   where
-    go : (h k : Holding) → clash_held h k ≡ false → clash_held k h ≡ false
-    go Empty Empty p = refl
-    go Empty (Held m) p = refl
-    go (Held l) Empty p = refl
-    go (Held l) (Held m) p =
+    go : (h k : Option Locator) → clash_held h k ≡ false → clash_held k h ≡ false
+    go None None p = refl
+    go None (Some m) p = refl
+    go (Some l) None p = refl
+    go (Some l) (Some m) p =
         rw (
           same_turned l.address m.address false (or_false_left (same_address l.address m.address) (same_nonce l.status m.status) p),
           nonce_turned l.status m.status (or_false_right (same_address l.address m.address) (same_nonce l.status m.status) p),
@@ -75,10 +74,10 @@ module _ (change : Locator → Locator) (settles : Settles change) where
       go (inl e) (inr f) = nonce_turned (change m).status (change l).status (checkless_left (change m).status (change l).status f)
       go (inr e) f = checkless_left (change l).status (change m).status e
 
-  held_apart : (h k : Holding) → clash_held h k ≡ false → clash_held (on_held change h) (on_held change k) ≡ false
-  held_apart Empty k p = refl
-  held_apart (Held l) Empty p = refl
-  held_apart (Held l) (Held m) p =
+  held_apart : (h k : Option Locator) → clash_held h k ≡ false → clash_held (on_held change h) (on_held change k) ≡ false
+  held_apart None k p = refl
+  held_apart (Some l) None p = refl
+  held_apart (Some l) (Some m) p =
       rw (
         settles.address l,
         settles.address m,
@@ -98,6 +97,6 @@ module _ (change : Locator → Locator) (settles : Settles change) where
   pub settled_lacks : (n : ℕ) (s : Slot) → Lacks n s → Lacks n (on_locator change s)
   settled_lacks n s p = go s.holding p
     where
-      go : (h : Holding) → Lacks n (record { holding = h }) → Lacks n (record { holding = on_held change h })
-      go Empty p = refl
-      go (Held l) p = nonce_lost n l p (settles.status l)
+      go : (h : Option Locator) → Lacks n (record { holding = h }) → Lacks n (record { holding = on_held change h })
+      go None p = refl
+      go (Some l) p = nonce_lost n l p (settles.status l)

@@ -1,11 +1,10 @@
 -- What refusal 0 refuses of two slots: "an address held twice, or two equal outstanding nonces".
-use Rattle.std.specs.Prelude.{Bool, false, ◌||◌, eqb}
+use Rattle.std.specs.Prelude.{Bool, false, ◌||◌, eqb, None, Option, Some}
 use Rattle.address.specs.Rules.{same_address}
 use Rattle.slot.specs.declared.Status.{Status}
 use Rattle.slot.specs.declared.Status.TheVariants.{Unverified, Active, Deprecated}
-use Rattle.slot.specs.declared.Holding.{Holding}
-use Rattle.slot.specs.declared.Holding.TheVariants.{Empty, Held}
 use Rattle.slot.specs.declared.Slot.{Slot}
+use Rattle.slot.specs.declared.Locator.{Locator}
 
 -- "two equal outstanding nonces": a nonce is outstanding where the status is UNVERIFIED
 abbrev pub same_nonce : Status → Status → Bool
@@ -16,10 +15,10 @@ same_nonce Active t = false
 same_nonce Deprecated t = false
 
 -- one address, or one outstanding nonce, in both
-abbrev pub clash_held : Holding → Holding → Bool
-clash_held Empty k = false
-clash_held (Held l) Empty = false
-clash_held (Held l) (Held m) = same_address l.address m.address || same_nonce l.status m.status
+abbrev pub clash_held : Option Locator → Option Locator → Bool
+clash_held None k = false
+clash_held (Some l) None = false
+clash_held (Some l) (Some m) = same_address l.address m.address || same_nonce l.status m.status
 
 -- the same, of two slots
 unfoldable pub clash : Slot → Slot → Bool

@@ -1,11 +1,9 @@
 -- Worked examples, computed from the definitions: what a slot holds, which slots clash, and expiry.
-use Rattle.std.specs.Prelude.{ℕ, ◌≡◌, refl, true, false, List, [], ◌∷◌, map, replicate}
-use Rattle.std.proofs.Math.Option.{none, some}
+use Rattle.std.specs.Prelude.{ℕ, ◌≡◌, refl, true, false, List, [], ◌∷◌, map, replicate, None, Some}
 use Rattle.address.specs.declared.Address.{Address}
 use Rattle.slot.specs.declared.Status.{Status}
 use Rattle.slot.specs.declared.Status.TheVariants.{Unverified, Active, Deprecated}
 use Rattle.slot.specs.declared.Locator.{Locator}
-use Rattle.slot.specs.declared.Holding.TheVariants.{Empty, Held}
 use Rattle.slot.specs.declared.Slot.{Slot}
 use Rattle.slot.specs.Found.{slot_count, empty_slot, slot_of, with_status, on_locator, holds, or_else, status_in, slot_at, status_at, is_active, is_unverified, is_deprecated, is_nonce, found_as, held_as}
 use Rattle.slot.specs.Clashes.{clash}
@@ -22,10 +20,10 @@ locator n s = record { address = address n; traffic = 2; expiry = 160; status = 
 
 -- a slot that holds it
 abbrev held : (n : ℕ) → Status → Slot
-held n s = record { holding = Held (locator n s) }
+held n s = record { holding = Some (locator n s) }
 
 abbrev empty : Slot
-empty = record { holding = Empty }
+empty = record { holding = None }
 
 -- UNVERIFIED, with a check of these numbers
 abbrev checked : (nonce id issued resends : ℕ) → Status
@@ -52,14 +50,14 @@ some_slots = empty ∷ held 1 (waiting 9 2) ∷ held 2 Active ∷ empty ∷ held
 
 -- whether a slot holds address 2, and "the status of the slot that holds the address": of addresses 1 to 4
 finds : (map (holds (address 2)) some_slots ≡ false ∷ false ∷ true ∷ false ∷ false ∷ [])
-    × (map (λ (n : ℕ). status_in (address n) some_slots) (1 ∷ 2 ∷ 3 ∷ 4 ∷ []) ≡ some (waiting 9 2) ∷ some Active ∷ some Deprecated ∷ none ∷ [])
-    × (status_in (address 1) [] ≡ none)
+    × (map (λ (n : ℕ). status_in (address n) some_slots) (1 ∷ 2 ∷ 3 ∷ 4 ∷ []) ≡ Some (waiting 9 2) ∷ Some Active ∷ Some Deprecated ∷ None ∷ [])
+    × (status_in (address 1) [] ≡ None)
 unfolding status_in
 finds = (refl, refl, refl)
 
 -- slot n and its status; past the last slot there is none
 numbered : (map (λ (n : ℕ). slot_at n some_slots) (0 ∷ 2 ∷ 5 ∷ []) ≡ empty ∷ held 2 Active ∷ empty ∷ [])
-    × (map (λ (n : ℕ). status_at n some_slots) (0 ∷ 1 ∷ 2 ∷ 5 ∷ []) ≡ none ∷ some (waiting 9 2) ∷ some Active ∷ none ∷ [])
+    × (map (λ (n : ℕ). status_at n some_slots) (0 ∷ 1 ∷ 2 ∷ 5 ∷ []) ≡ None ∷ Some (waiting 9 2) ∷ Some Active ∷ None ∷ [])
 numbered = (refl, refl)
 
 -- the tests of a status: UNVERIFIED with nonce 9 and Update ID 2, ACTIVE, DEPRECATED
@@ -72,9 +70,9 @@ tests : (map is_active statuses ≡ false ∷ true ∷ false ∷ [])
     × (map (is_nonce 9) statuses ≡ true ∷ false ∷ false ∷ [])
     × (map (λ (nonce : ℕ). is_nonce nonce (waiting 9 2)) (2 ∷ 8 ∷ 10 ∷ []) ≡ false ∷ false ∷ false ∷ [])
     × (map (held_as is_active) some_slots ≡ false ∷ false ∷ true ∷ false ∷ false ∷ [])
-    × (map (found_as is_active) (none ∷ some Active ∷ some Deprecated ∷ []) ≡ false ∷ true ∷ false ∷ [])
-    × (map (or_else (some Active)) (none ∷ some Deprecated ∷ []) ≡ some Active ∷ some Active ∷ [])
-    × (map (or_else {A = Status} none) (none ∷ some Deprecated ∷ []) ≡ none ∷ some Deprecated ∷ [])
+    × (map (found_as is_active) (None ∷ Some Active ∷ Some Deprecated ∷ []) ≡ false ∷ true ∷ false ∷ [])
+    × (map (or_else (Some Active)) (None ∷ Some Deprecated ∷ []) ≡ Some Active ∷ Some Active ∷ [])
+    × (map (or_else {A = Status} None) (None ∷ Some Deprecated ∷ []) ≡ None ∷ Some Deprecated ∷ [])
 tests = (refl, refl, refl, refl, refl, refl, refl, refl, refl)
 
 -- "an address held twice": whatever the statuses; an empty slot clashes with none

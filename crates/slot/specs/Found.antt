@@ -1,13 +1,10 @@
 -- What slots hold: "A slot is empty or holds 16 address bytes, a traffic type, an expiry time and a status."
-use Rattle.std.specs.Prelude.{ℕ, Bool, true, false, cond, List, [], ◌∷◌, eqb, get_or}
-use Rattle.std.proofs.Math.Option.{Option, none, some}
+use Rattle.std.specs.Prelude.{ℕ, Bool, true, false, cond, List, [], ◌∷◌, eqb, get_or, None, Option, Some}
 use Rattle.address.specs.declared.Address.{Address}
 use Rattle.address.specs.Rules.{same_address}
 use Rattle.slot.specs.declared.Status.{Status}
 use Rattle.slot.specs.declared.Status.TheVariants.{Unverified, Active, Deprecated}
 use Rattle.slot.specs.declared.Locator.{Locator}
-use Rattle.slot.specs.declared.Holding.{Holding}
-use Rattle.slot.specs.declared.Holding.TheVariants.{Empty, Held}
 use Rattle.slot.specs.declared.Slot.{Slot}
 
 -- "and 8 slots"
@@ -16,47 +13,47 @@ slot_count = 8
 
 -- a slot that holds nothing
 abbrev pub empty_slot : Slot
-empty_slot = record { holding = Empty }
+empty_slot = record { holding = None }
 
 -- a slot that holds a locator
 abbrev pub slot_of : Locator → Slot
-slot_of l = record { holding = Held l }
+slot_of l = record { holding = Some l }
 
 -- the locator with another status
 abbrev pub with_status : Locator → Status → Locator
 with_status l s = record { address = l.address; traffic = l.traffic; expiry = l.expiry; status = s }
 
 -- what is held, changed so; nothing stays nothing
-abbrev pub on_held : (Locator → Locator) → Holding → Holding
-on_held change Empty = Empty
-on_held change (Held l) = Held (change l)
+abbrev pub on_held : (Locator → Locator) → Option Locator → Option Locator
+on_held change None = None
+on_held change (Some l) = Some (change l)
 
 -- the slot with its locator changed so; an empty slot stays empty
 abbrev pub on_locator : (Locator → Locator) → Slot → Slot
 on_locator change s = record { holding = on_held change s.holding }
 
 -- the slot holds the address
-abbrev pub holds_held : Address → Holding → Bool
-holds_held x Empty = false
-holds_held x (Held l) = same_address x l.address
+abbrev pub holds_held : Address → Option Locator → Bool
+holds_held x None = false
+holds_held x (Some l) = same_address x l.address
 
 -- the same, of a slot
 abbrev pub holds : Address → Slot → Bool
 holds x s = holds_held x s.holding
 
 -- the status of an address in a slot, if the slot holds it
-abbrev pub status_held : Address → Holding → Option Status
-status_held x Empty = none
-status_held x (Held l) = cond (same_address x l.address) (some l.status) none
+abbrev pub status_held : Address → Option Locator → Option Status
+status_held x None = None
+status_held x (Some l) = cond (same_address x l.address) (Some l.status) None
 
 -- the first answer that there is
 abbrev pub or_else : {A : Type 0} → Option A → Option A → Option A
-or_else none o = o
-or_else (some a) o = some a
+or_else None o = o
+or_else (Some a) o = Some a
 
 -- "Finds and leaves: the status of the slot that holds the address"; none where the address is not held
 unfoldable pub status_in : Address → List Slot → Option Status
-status_in x [] = none
+status_in x [] = None
 status_in x (s ∷ ss) = or_else (status_held x s.holding) (status_in x ss)
 
 -- slot n; an empty one where there is none
@@ -64,9 +61,9 @@ abbrev pub slot_at : ℕ → List Slot → Slot
 slot_at n ss = get_or ss n empty_slot
 
 -- the status of what is held, if anything is
-abbrev pub status_of : Holding → Option Status
-status_of Empty = none
-status_of (Held l) = some l.status
+abbrev pub status_of : Option Locator → Option Status
+status_of None = None
+status_of (Some l) = Some l.status
 
 -- the status that slot n has, if it holds anything
 abbrev pub status_at : ℕ → List Slot → Option Status
@@ -98,8 +95,8 @@ is_nonce nonce Deprecated = false
 
 -- there is a status, and it passes the test
 abbrev pub found_as : (Status → Bool) → Option Status → Bool
-found_as test none = false
-found_as test (some s) = test s
+found_as test None = false
+found_as test (Some s) = test s
 
 -- the slot holds a locator whose status passes the test
 abbrev pub held_as : (Status → Bool) → Slot → Bool

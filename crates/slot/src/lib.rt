@@ -39,56 +39,38 @@ pub struct Locator {
     pub status: Status,
 }
 
-#[derive(Clone, Copy)]
-pub enum Holding {
-    Empty,
-    Held(Locator),
-}
-
+// A slot that the association has for an address: empty, or with the locator that it holds.
 #[derive(Clone, Copy)]
 pub struct Slot {
-    pub holding: Holding,
+    pub holding: Option<Locator>,
 }
 
 // The locator with another status.
 pub fn with_status(l: Locator, status: Status) -> Locator
     ensures { result ≡ with_status l status }
 {
-    let address = l.address;
-    Locator {
-        address,
-        traffic: l.traffic,
-        expiry: l.expiry,
-        status,
-    }
+    Locator { status, ..l }
 }
 
 // The status is DEPRECATED.
 pub fn is_deprecated(status: Status) -> bool
     ensures { result ≡ is_deprecated status }
 {
-    match status {
-        Status::Unverified(_) => false,
-        Status::Active => false,
-        Status::Deprecated => true,
-    }
+    matches!(status, Status::Deprecated)
 }
 
 // The locator in the slot has a check with this nonce.
-pub fn has_nonce(slot: Slot, nonce: u64) -> bool
-    ensures { result ≡ held_as (is_nonce nonce) slot }
+pub fn has_nonce(slot: &Slot, nonce: u64) -> bool
+    ensures { result ≡ held_as (is_nonce nonce) slot.now }
 {
-    let holding = slot.holding;
-    match holding {
-        Holding::Empty => false,
-        Holding::Held(l) => {
-            let status = l.status;
-            match status {
-                Status::Unverified(k) => nonce == k.nonce,
-                Status::Active => false,
-                Status::Deprecated => false,
-            }
-        }
+    match slot.holding {
+        Some(
+            Locator {
+                status: Status::Unverified(check),
+                ..
+            },
+        ) => nonce == check.nonce,
+        _ => false,
     }
 }
 
@@ -96,39 +78,20 @@ pub fn has_nonce(slot: Slot, nonce: u64) -> bool
 fn same_nonce(x: Status, y: Status) -> bool
     ensures { result ≡ same_nonce x y }
 {
-    match x {
-        Status::Unverified(k) => match y {
-            Status::Unverified(l) => k.nonce == l.nonce,
-            Status::Active => false,
-            Status::Deprecated => false,
-        },
-        Status::Active => false,
-        Status::Deprecated => false,
+    match (x, y) {
+        (Status::Unverified(k), Status::Unverified(l)) => k.nonce == l.nonce,
+        _ => false,
     }
 }
 
 // Two slots that no association may hold together: one address, or one nonce, stands in both.
 #[tactic(auto, unfolding(crate::specs::Clashes::clash))]
-pub fn clashes(x: Slot, y: Slot) -> bool
-    ensures { result ≡ clash x y }
+pub fn clashes(x: &Slot, y: &Slot) -> bool
+    ensures { result ≡ clash x.now y.now }
 {
-    let first = x.holding;
-    let second = y.holding;
-    match first {
-        Holding::Empty => false,
-        Holding::Held(l) => match second {
-            Holding::Empty => false,
-            Holding::Held(m) => {
-                let a = l.address;
-                let b = m.address;
-                let s = l.status;
-                let t = m.status;
-                if address::same(a, b) {
-                    return true;
-                }
-                same_nonce(s, t)
-            }
-        },
+    match (x.holding, y.holding) {
+        (Some(l), Some(m)) => l.address == m.address || same_nonce(l.status, m.status),
+        _ => false,
     }
 }
 
@@ -137,9 +100,8 @@ fn is_given_up(status: Status, time: u64) -> bool
     ensures { result ≡ given_up time status }
 {
     match status {
-        Status::Unverified(k) => check_times::is_given_up(k.issued, time),
-        Status::Active => false,
-        Status::Deprecated => false,
+        Status::Unverified(check) => check_times::is_given_up(check.issued, time),
+        Status::Active | Status::Deprecated => false,
     }
 }
 
@@ -147,25 +109,21 @@ fn is_given_up(status: Status, time: u64) -> bool
 pub fn is_over(l: Locator, time: u64) -> bool
     ensures { result ≡ is_over time l }
 {
-    let status = l.status;
-    boolean::either(l.expiry <= time, is_given_up(status, time))
+    l.expiry <= time || is_given_up(l.status, time)
 }
 
 // The locator in the slot has a check that no association of this time may hold.
-pub fn has_bad_check(slot: Slot, time: u64) -> bool
-    ensures { result ≡ held_as (bad_check time) slot }
+pub fn has_bad_check(slot: &Slot, time: u64) -> bool
+    ensures { result ≡ held_as (bad_check time) slot.now }
 {
-    let holding = slot.holding;
-    match holding {
-        Holding::Empty => false,
-        Holding::Held(l) => {
-            let status = l.status;
-            match status {
-                Status::Unverified(k) => check_times::is_bad_check(k.issued, k.resends, time),
-                Status::Active => false,
-                Status::Deprecated => false,
-            }
-        }
+    match slot.holding {
+        Some(
+            Locator {
+                status: Status::Unverified(check),
+                ..
+            },
+        ) => { check_times::is_bad_check(check.issued, check.resends, time) }
+        _ => false,
     }
 }
 
@@ -173,17 +131,10 @@ pub fn has_bad_check(slot: Slot, time: u64) -> bool
 pub fn expire(slot: Slot, time: u64) -> Slot
     ensures { result ≡ expire_slot time slot }
 {
-    let holding = slot.holding;
-    match holding {
-        Holding::Empty => slot,
-        Holding::Held(l) => {
-            if is_over(l, time) {
-                Slot {
-                    holding: Holding::Held(with_status(l, Status::Deprecated)),
-                }
-            } else {
-                slot
-            }
-        }
+    match slot.holding {
+        Some(l) if is_over(l, time) => Slot {
+            holding: Some(with_status(l, Status::Deprecated)),
+        },
+        _ => slot,
     }
 }

@@ -5,7 +5,7 @@ use mathlib.Core.List.{List, [], ◌∷◌, map}
 use Prim.Native.Nat.{ℕ, zero, suc}
 use lib.ListN.{set}
 use Rattle.boolean.proofs.Laws.{or_false_left, or_false_right}
-use Rattle.octets.specs.Records.{some}
+use Rattle.std.specs.List.{list_any}
 
 unfoldable pub All : {A : Type 0} → (A → Type 0) → List A → Type 0
 All holds [] = Unit {0}
@@ -17,13 +17,13 @@ Pairs related (x ∷ xs) = All (related x) xs × Pairs related xs
 
 module _ {A : Type 0} where
   -- no element passes a test exactly where every element fails it
-  pub none_all : (test : A → Bool) (xs : List A) → some test xs ≡ false → All (λ x. test x ≡ false) xs
-  unfolding some All
+  pub none_all : (test : A → Bool) (xs : List A) → list_any test xs ≡ false → All (λ x. test x ≡ false) xs
+  unfolding All
   none_all test [] p = tt
-  none_all test (x ∷ xs) p = (or_false_left (test x) (some test xs) p, none_all test xs (or_false_right (test x) (some test xs) p))
+  none_all test (x ∷ xs) p = (or_false_left (test x) (list_any test xs) p, none_all test xs (or_false_right (test x) (list_any test xs) p))
 
-  pub all_none : (test : A → Bool) (xs : List A) → All (λ x. test x ≡ false) xs → some test xs ≡ false
-  unfolding some All
+  pub all_none : (test : A → Bool) (xs : List A) → All (λ x. test x ≡ false) xs → list_any test xs ≡ false
+  unfolding All
   all_none test [] p = refl
   all_none test (x ∷ xs) p = rw p.0 (all_none test xs p.1)
 

@@ -2,13 +2,12 @@
 -- address stays or turns DEPRECATED. Assumes nothing.
 use mathlib.Core.Path.{◌≡◌, refl}
 use mathlib.Core.Bool.{false}
-use mathlib.Core.Option.{Option, none, some, map}
 use mathlib.Core.Logic.{inl, inr}
 use mathlib.Core.List.{List, [], ◌∷◌}
 use Prim.Native.Nat.{ℕ, ◌≤◌}
 use native.Mathlib.Omega.{arith}
 use Rattle.boolean.proofs.Laws.{or_false_left, or_false_right}
-use Rattle.octets.specs.Records as records
+use Rattle.std.specs.List.{list_any}
 use Rattle.address.specs.declared.Address.{Address}
 use Rattle.check_times.specs.Times.{reached, is_given_up}
 use Rattle.check_times.proofs.Moments.{reached_most, good, good_issued, good_resends}
@@ -26,16 +25,17 @@ use Rattle.slot.proofs.Resent.{resent_clear}
 use Rattle.slots.specs.Rules.{clashing, bad_checks, expire_all, resend_all}
 use Rattle.slots.proofs.Statuses.{status_map}
 use Rattle.slots.proofs.Each.{All, Pairs, none_all, all_none, all_map, all_imply, pairs_map}
+use Rattle.std.specs.Prelude.{None, Option, Some, option_map}
 
 -- slots that do not clash, as pairs
 pub clear_pairs : (ss : List Slot) → clashing ss ≡ false → Pairs Clear ss
-unfolding clashing Pairs
+unfolding Pairs
 clear_pairs [] p = tt
 clear_pairs (s ∷ ss) p =
-    (none_all (clash s) ss (or_false_left (records.some (clash s) ss) (clashing ss) p), clear_pairs ss (or_false_right (records.some (clash s) ss) (clashing ss) p))
+    (none_all (clash s) ss (or_false_left (list_any (clash s) ss) (clashing ss) p), clear_pairs ss (or_false_right (list_any (clash s) ss) (clashing ss) p))
 
 pub pairs_clear : (ss : List Slot) → Pairs Clear ss → clashing ss ≡ false
-unfolding clashing Pairs
+unfolding Pairs
 pairs_clear [] p = refl
 pairs_clear (s ∷ ss) p = rw (all_none (clash s) ss p.0) (pairs_clear ss p.1)
 
@@ -45,9 +45,9 @@ expired_clashing t ss p =
     (pairs_map Clear Clear (expire_slot t) (settled_clear (expire_locator t) (expired_settles t)) ss (clear_pairs ss p))
 
 either_kept : (o o' p p' : Option Status) → KeptOrDeprecated o o' → KeptOrDeprecated p p' → KeptOrDeprecated (or_else o p) (or_else o' p')
-either_kept none o' p p' e h = rw e h
-either_kept (some s) o' p p' (inl e) h = inl (rw e)
-either_kept (some s) o' p p' (inr e) h = inr (rw e)
+either_kept None o' p p' e h = rw e h
+either_kept (Some s) o' p p' (inl e) h = inl (rw e)
+either_kept (Some s) o' p p' (inr e) h = inr (rw e)
 
 pub expired_statuses : (x : Address) (t : ℕ) (ss : List Slot) → KeptOrDeprecated (status_in x ss) (status_in x (expire_all t ss))
 unfolding status_in
@@ -56,7 +56,7 @@ expired_statuses x t (s ∷ ss) =
     either_kept (status_held x s.holding) (status_held x (expire_held t s.holding)) (status_in x ss) (status_in x (expire_all t ss))
     (expired_status x t s.holding) (expired_statuses x t ss)
 
-pub resent_statuses : (x : Address) (t : ℕ) (ss : List Slot) → status_in x (resend_all t ss) ≡ map (resend_status t) (status_in x ss)
+pub resent_statuses : (x : Address) (t : ℕ) (ss : List Slot) → status_in x (resend_all t ss) ≡ option_map (resend_status t) (status_in x ss)
 resent_statuses x t ss = status_map (resend_locator t) (λ y s. resend_status t s) (λ l. refl) (λ l. refl) x ss
 
 -- ---- the checks

@@ -1,13 +1,11 @@
 -- Worked examples, computed from the definitions.
 use Rattle.std.specs.Prelude.{ℕ, ◌+◌, ◌≡◌, refl, true, false, List, [], ◌∷◌, map, replicate}
-use Rattle.octets.specs.Records.{some}
 use Rattle.slot.specs.declared.Status.{Status}
 use Rattle.slot.specs.declared.Status.TheVariants.{Unverified, Active, Deprecated}
 use Rattle.slot.specs.declared.Slot.{Slot}
 use Rattle.slot.specs.Found.{empty_slot, slot_of}
 use Rattle.slot.specs.Clashes.{clash}
 use Rattle.slots.specs.Rules.{clashing, bad_checks, expire_all, resend_all, is_outstanding}
-use Rattle.slots.specs.Past.{past}
 
 -- a slot that holds 2001:db8::n until 100 + n
 abbrev held : (n : ℕ) → Status → Slot
@@ -42,7 +40,7 @@ clashes : (map clashing
     ∷ []
     ∷ [])
     ≡ replicate 4 false)
-unfolding clashing some clash
+unfolding clash
 clashes = (refl, refl)
 
 -- each locator by its own expiry, 101, 102 and 103
@@ -62,7 +60,6 @@ bad_checks_lem : (map (bad_checks 100)
     ∷ [])
     ≡ replicate 3 true)
     × (map (bad_checks 100) (eight (held 1 (issued 7 100 4)) (held 2 Active) (held 3 (waiting 9)) ∷ replicate 8 empty_slot ∷ [] ∷ []) ≡ replicate 3 false)
-unfolding some
 bad_checks_lem = (refl, refl)
 
 -- each locator by its own check: issued at 80, 84 and 85
@@ -78,13 +75,8 @@ resends : resend_all 100 (eight (held 1 (issued 7 98 0)) (held 2 (issued 8 95 1)
     ≡ eight (held 1 (issued 7 98 2)) (held 2 (issued 8 95 3)) (held 3 (issued 9 100 0))
 resends = refl
 
--- before its expiry, 103, at it and past it; an empty slot is never
-pasts : (map (λ (time : ℕ). past time (held 3 Active)) (102 ∷ 103 ∷ 104 ∷ []) ≡ false ∷ true ∷ true ∷ []) × (past 104 empty_slot ≡ false)
-pasts = (refl, refl)
-
 -- nonces 7 and 9 are outstanding; no other is, and not the Update ID of their checks
 outstanding : (map (is_outstanding (eight (held 1 (waiting 7)) (held 2 Active) (held 3 (waiting 9)))) (7 ∷ 9 ∷ 8 ∷ 3 ∷ 0 ∷ [])
     ≡ true ∷ true ∷ false ∷ false ∷ false ∷ [])
     × (map (is_outstanding (eight (held 1 Active) (held 2 Deprecated) empty_slot)) (0 ∷ 3 ∷ []) ≡ false ∷ false ∷ [])
-unfolding some
 outstanding = (refl, refl)

@@ -3,76 +3,55 @@
 #![tactic(auto)]
 
 ghost use Rattle.std.specs.Prelude.{◌||◌, ◌≡◌};
+ghost use Rattle.std.specs.List.{list_any};
+ghost use Rattle.slot.specs.Clashes.{clash};
 ghost use Rattle.slots.specs.Rules.{clashing, bad_checks, expire_all, is_outstanding};
-ghost use Rattle.slots.specs.Past.{past};
 
-use slot::{Holding, SLOT_COUNT, Slot};
+use slot::{SLOT_COUNT, Slot};
 
-// What refusal 0 refuses of the slots, in one pass over them: a slot has a check that no association of this time may hold, or clashes with one after it.
-pub fn any_bad(slots: [Slot; SLOT_COUNT], time: u64) -> bool
-    ensures { result ≡ (clashing slots || bad_checks time slots) }
+// The slot clashes with one of the others.
+fn clashes_with(slot: &Slot, others: &[Slot]) -> bool
+    ensures { result ≡ list_any (clash slot.now) others.now }
 {
-    let held = slots;
-    let mut i: usize = 0;
-    while i < SLOT_COUNT {
-        let slot = held[i];
-        if slot::has_bad_check(slot, time) {
-            return true;
-        }
-        let mut j = i + 1;
-        while j < SLOT_COUNT {
-            let other = held[j];
-            if slot::clashes(slot, other) {
-                return true;
-            }
-            j += 1;
-        }
-        i += 1;
-    }
-    false
+    others.iter().any(|other| slot::clashes(slot, other))
 }
 
-// The slot holds a locator that is over.
-fn is_past(slot: Slot, time: u64) -> bool
-    ensures { result ≡ past time slot }
+// A slot clashes with one after it.
+fn any_clash(slots: &[Slot]) -> bool
+    ensures { result ≡ clashing slots.now }
 {
-    let holding = slot.holding;
-    match holding {
-        Holding::Empty => false,
-        Holding::Held(l) => slot::is_over(l, time),
+    match slots.split_first() {
+        None => false,
+        Some((slot, others)) => clashes_with(slot, others) || any_clash(others),
     }
 }
 
-// The slots at a time: locators that are over are DEPRECATED. The other slots are not written.
-pub fn expire_all(slots: [Slot; SLOT_COUNT], time: u64) -> [Slot; SLOT_COUNT]
-    ensures { result ≡ expire_all time slots }
+// A slot has a check that no association of this time may hold.
+fn any_bad_check(slots: &[Slot], time: u64) -> bool
+    ensures { result ≡ bad_checks time slots.now }
 {
-    let mut held = slots;
-    let mut i: usize = 0;
-    while i < SLOT_COUNT {
-        let slot = held[i];
-        if is_past(slot, time) {
-            held[i] = slot::expire(slot, time);
-            i += 1;
-        } else {
-            i += 1;
-        }
+    slots.iter().any(|slot| slot::has_bad_check(slot, time))
+}
+
+// What refusal 0 refuses of the slots: a slot clashes with one after it, or has a check that no association of this time may hold.
+pub fn any_bad(slots: &[Slot; SLOT_COUNT], time: u64) -> bool
+    ensures { result ≡ (clashing slots.now || bad_checks time slots.now) }
+{
+    any_clash(slots) || any_bad_check(slots, time)
+}
+
+// The slots at a time: locators that are over are DEPRECATED.
+pub fn expire_all(slots: &mut [Slot; SLOT_COUNT], time: u64)
+    ensures { slots.new ≡ expire_all time slots.old }
+{
+    for slot in slots.iter_mut() {
+        *slot = slot::expire(*slot, time);
     }
-    held
 }
 
 // The nonce is outstanding.
-pub fn is_outstanding(slots: [Slot; SLOT_COUNT], nonce: u64) -> bool
-    ensures { result ≡ is_outstanding slots nonce }
+pub fn is_outstanding(slots: &[Slot; SLOT_COUNT], nonce: u64) -> bool
+    ensures { result ≡ is_outstanding slots.now nonce }
 {
-    let held = slots;
-    let mut i: usize = 0;
-    while i < SLOT_COUNT {
-        let slot = held[i];
-        if slot::has_nonce(slot, nonce) {
-            return true;
-        }
-        i += 1;
-    }
-    false
+    slots.iter().any(|slot| slot::has_nonce(slot, nonce))
 }

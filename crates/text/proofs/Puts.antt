@@ -1,33 +1,23 @@
--- Texts written at a place, and the loops that write them. Assumes nothing.
+-- Where a text ends, and bytes written in hex one after another. Assumes nothing.
 use Prim.Native.Nat.{ℕ, suc, ◌+◌, ◌*◌, ◌/◌, ◌%◌, ◌≤◌, ◌<◌}
 use mathlib.Core.Path.{◌≡◌, refl, sym, ap, ◌∙◌}
 use mathlib.Core.List.{List, [], ◌∷◌, ◌++◌}
 use lib.ListN.{length, take, drop, get_or, take-append-drop, length-append}
-use lib.Seq.{take-suc, take_all}
+use lib.Seq.{take-suc, take_all, length-take-le}
 use borrow.Author.Tests.{le-leb, lt-leb}
+use native.Mathlib.Numerals.{add-one}
 use native.Mathlib.Omega.{arith}
 use Rattle.writer.specs.Writes.{written_at}
 use Rattle.writer.proofs.Writes.{written_beyond, written_length, written_none, written_more}
 use Rattle.text.specs.Texts.{glyph_of, hex_of, end_of}
 
--- ---- where a text ends
-module _ (at : ℕ) (text buffer : List ℕ) where
-  -- a text that does not fit
-  pub put_beyond : length buffer < at + length text → (buffer ≡ written_at at text buffer) × (at ≡ end_of at text buffer)
-  unfolding end_of
-  put_beyond h = (written_beyond at text buffer h, rw (lt-leb _ _ h))
+-- a text that fits
+pub end_within : (at : ℕ) (text buffer : List ℕ) → at + length text ≤ length buffer → at + length text ≡ end_of at text buffer
+unfolding end_of
+end_within at text buffer h = rw (le-leb _ _ h)
 
-  -- a text that fits
-  pub end_within : at + length text ≤ length buffer → at + length text ≡ end_of at text buffer
-  unfolding end_of
-  end_within h = rw (le-leb _ _ h)
-
--- what is written leaves the buffer as long as it was
-pub kept_length : (at : ℕ) (text buffer out : List ℕ) → out ≡ written_at at text buffer → length out ≡ length buffer
-kept_length at text buffer out e = ap length e ∙ written_length at text buffer
-
--- ---- bytes in hex, one after another
-pub hex_append : (x y : List ℕ) → hex_of (x ++ y) ≡ hex_of x ++ hex_of y
+-- ---- bytes in hex
+hex_append : (x y : List ℕ) → hex_of (x ++ y) ≡ hex_of x ++ hex_of y
 unfolding hex_of
 hex_append [] y = refl
 hex_append (b ∷ x) y = ap (λ (t : List ℕ). glyph_of (b / 16) ∷ glyph_of (b % 16) ∷ t) (hex_append x y)
@@ -37,10 +27,44 @@ unfolding hex_of
 hex_length [] = refl
 hex_length (b ∷ x) = omega (arith, hex_length x)
 
--- one byte in hex
-pub hex_byte : (b : ℕ) → glyph_of (b / 16) ∷ glyph_of (b % 16) ∷ [] ≡ hex_of (b ∷ [])
+-- all of them
+pub hex_all : (i : ℕ) (bytes : List ℕ) → length bytes ≤ i → hex_of (take i bytes) ≡ hex_of bytes
+hex_all i bytes h = rw (take_all i bytes h)
+
+module _ (at : ℕ) (bytes buffer : List ℕ) where
+  -- where they do not all fit
+  pub hex_beyond : length buffer < at + 2 * length bytes → written_at at (hex_of bytes) buffer ≡ buffer
+  hex_beyond h = sym (written_beyond at (hex_of bytes) buffer (omega (arith, hex_length bytes)))
+
+  pub hex_stays : length buffer < at + 2 * length bytes → end_of at (hex_of bytes) buffer ≡ at
+  unfolding end_of
+  hex_stays h = let past : length buffer < at + length (hex_of bytes) = omega (arith, hex_length bytes) in rw (lt-leb _ _ past)
+
+  -- where they do
+  pub hex_end : at + 2 * length bytes ≤ length buffer → end_of at (hex_of bytes) buffer ≡ at + 2 * length bytes
+  hex_end h = sym (end_within at (hex_of bytes) buffer (omega (arith, hex_length bytes))) ∙ omega (arith, hex_length bytes)
+
+-- no byte yet
+pub hex_none : (at : ℕ) (buffer : List ℕ) → buffer ≡ written_at at (hex_of []) buffer
 unfolding hex_of
-hex_byte b = refl
+hex_none at buffer = written_none at buffer
+
+-- one byte more, after those before it
+pub hex_next : (at i end next : ℕ) (bytes buffer once twice : List ℕ) → i < length bytes → at + 2 * length bytes ≤ length buffer → end ≡ at + 2 * i
+    → once ≡ written_at at (hex_of (take i bytes)) buffer → twice ≡ written_at end (hex_of (get_or bytes i 0 ∷ [])) once
+    → next ≡ end_of end (hex_of (get_or bytes i 0 ∷ [])) once → (twice ≡ written_at at (hex_of (take (i + 1) bytes)) buffer) × (next ≡ at + 2 * (i + 1))
+hex_next at i end next bytes buffer once twice h room e p q n =
+    let done : List ℕ = hex_of (take i bytes) in
+    let pair : List ℕ = hex_of (get_or bytes i 0 ∷ []) in
+    let more : hex_of (take (i + 1) bytes) ≡ done ++ pair = rw (add-one, take-suc bytes i 0 h) (hex_append (take i bytes) (get_or bytes i 0 ∷ [])) in
+    let few : i ≤ length bytes = omega arith in
+    let byte : List ℕ = get_or bytes i 0 ∷ [] in
+    let two : length pair ≡ 2 = hex_length byte in
+    let before : length done ≡ 2 * i = omega (arith, hex_length (take i bytes), length-take-le i bytes few) in
+    let kept : length once ≡ length buffer = ap length p ∙ written_length at done buffer in (
+      rw more (written_more at end done pair buffer once twice (omega arith) (omega arith) p q),
+      n ∙ hex_end end byte once (omega arith) ∙ omega arith,
+    )
 
 -- ---- a loop that writes what the bytes of a text are spelled as, one byte after another
 pub record Spelling (spell : List ℕ → List ℕ) : Type 0 where
@@ -79,3 +103,6 @@ module _ (spell : List ℕ → List ℕ) (p : Spelling spell) (at : ℕ) (text b
   -- all bytes
   pub ended : (i : ℕ) (out : List ℕ) → length text ≤ i → out ≡ written_at at (spell (take i text)) buffer → out ≡ written_at at (spell text) buffer
   ended i out h e = rw (take_all i text h) at e
+
+-- what the loop needs
+pub ruleset hex_laws = (hex_none, hex_next, hex_all, hex_beyond, hex_stays, hex_end)

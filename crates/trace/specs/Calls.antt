@@ -1,7 +1,7 @@
 -- The calls of a trace. A record's first section has numbers: which call it is, and then the call's arguments in the order in which document 01 names
 -- them; a message has the host's mark and the length of its reply buffer, a tick the length of its buffer, an announcement the length of its buffer and then its list. The second section
 -- is a message's packet, a start's address or the addresses of an announcement's list, the third a message's nonces.
-use Rattle.std.specs.Prelude.{ℕ, ◌+◌, ◌*◌, Bool, cond, ◌&&◌, List, [], ◌∷◌, map, leb, eqb}
+use Rattle.std.specs.Prelude.{ℕ, ◌+◌, ◌*◌, Bool, cond, ◌&&◌, Option, None, Some, List, [], ◌∷◌, map, leb, eqb}
 use Rattle.address.specs.Rules.{address_at}
 use Rattle.reply_form.specs.Replies.{nonce_count}
 use Rattle.entries.specs.Numbers.{number_size, address_size, number_of, is_narrow}
@@ -14,7 +14,7 @@ use Rattle.trace.specs.declared.MessageCall.{MessageCall}
 use Rattle.trace.specs.declared.TickCall.{TickCall}
 use Rattle.trace.specs.declared.AnnounceCall.{AnnounceCall}
 use Rattle.trace.specs.declared.Call.{Call}
-use Rattle.trace.specs.declared.Call.TheVariants.{Start, Message, Arrival, Send, Tick, Announce, Malformed}
+use Rattle.trace.specs.declared.Call.TheVariants.{Start, Message, Arrival, Send, Tick, Announce}
 
 -- the first number: which call
 abbrev pub start_number : ℕ
@@ -105,19 +105,19 @@ tick_of s r = record { time = number_of s r.numbers 1; room = number_of s r.numb
 
 -- ---- any call
 -- a call with one argument, a size, and no bytes
-unfoldable pub plain_of : (which argument : ℕ) → Call
+unfoldable pub plain_of : (which argument : ℕ) → Option Call
 plain_of which argument =
-    cond (eqb which arrival_number) (Arrival argument)
-    (cond (eqb which send_number) (Send argument) Malformed)
+    cond (eqb which arrival_number) (Some (Arrival argument))
+    (cond (eqb which send_number) (Some (Send argument)) None)
 
 -- the call that a record stands for, or none: its sections do not fit any
-unfoldable pub call_of : List ℕ → Record → Call
+unfoldable pub call_of : List ℕ → Record → Option Call
 call_of s r =
-    cond (is_start s r) (Start (start_of s r))
-    (cond (is_message s r) (Message (message_of s r))
-    (cond (is_tick s r) (Tick (tick_of s r))
-    (cond (is_announcement s r) (Announce (announcement_of s r))
-    (cond (has_sizes r (2 * number_size) 0 0) (plain_of (number_of s r.numbers 0) (number_of s r.numbers 1)) Malformed))))
+    cond (is_start s r) (Some (Start (start_of s r)))
+    (cond (is_message s r) (Some (Message (message_of s r)))
+    (cond (is_tick s r) (Some (Tick (tick_of s r)))
+    (cond (is_announcement s r) (Some (Announce (announcement_of s r)))
+    (cond (has_sizes r (2 * number_size) 0 0) (plain_of (number_of s r.numbers 0) (number_of s r.numbers 1)) None))))
 
 -- the nonces of a message
 abbrev pub nonces_of : List ℕ → Section → List ℕ

@@ -1,5 +1,5 @@
 -- Worked examples, computed from the definitions: a record of each call, and records whose sections fit none.
-use Rattle.std.specs.Prelude.{ℕ, suc, ◌≡◌, refl, true, false, List, [], ◌∷◌, ◌++◌, map, replicate}
+use Rattle.std.specs.Prelude.{ℕ, suc, ◌≡◌, refl, true, false, Option, None, Some, List, [], ◌∷◌, ◌++◌, map, replicate}
 use Rattle.octets.specs.ExamplesHex.{hex}
 use Rattle.octets.specs.Written.{bytes_of}
 use Rattle.sections.specs.Records.{record_at}
@@ -7,11 +7,11 @@ use Rattle.sections.specs.Written.{section_bytes, record_bytes}
 use Rattle.entries.specs.Entries.{is_entry, are_entries}
 use Rattle.entries.specs.ExamplesWritten.{numbers, written, place, entry, plain, announcing, places, nine}
 use Rattle.trace.specs.declared.Call.{Call}
-use Rattle.trace.specs.declared.Call.TheVariants.{Start, Message, Arrival, Send, Tick, Announce, Malformed}
+use Rattle.trace.specs.declared.Call.TheVariants.{Start, Message, Arrival, Send, Tick, Announce}
 use Rattle.trace.specs.Calls.{start_number, message_number, arrival_number, send_number, tick_number, announce_number, is_start, room_limit, is_message, is_tick, is_announcement, plain_of, call_of, nonces_of}
 
 -- the call that a record stands for
-abbrev read : List ℕ → Call
+abbrev read : List ℕ → Option Call
 read bytes = call_of bytes (record_at bytes 0)
 
 -- eight nonces
@@ -40,17 +40,17 @@ in_hex : map read
     ∷ (hex "0040 0000000000000005 0000000000000038 0000000000000001 0000000000000002 000000000000003c 0000000000000001"
     ++ hex "0000000000001002 0000000000000007 0010 20010db8 00000000 00000000 00000001 0000")
     ∷ [])
-    ≡ Start (record {
+    ≡ Some (Start (record {
       time = 100;
       outbound = 0x2001;
       inbound = 0x1001;
       lifetime = 60;
       address = record { high = 0x20010db800000000; low = 1 };
-    })
-    ∷ Message (record { authentic = true; room = 384 })
-    ∷ Arrival 1500
-    ∷ Tick (record { time = 105; room = 320 })
-    ∷ Announce (record { room = 56; count = 1; inbound = 0x1002; keymat = 7 })
+    }))
+    ∷ Some (Message (record { authentic = true; room = 384 }))
+    ∷ Some (Arrival 1500)
+    ∷ Some (Tick (record { time = 105; room = 320 }))
+    ∷ Some (Announce (record { room = 56; count = 1; inbound = 0x1002; keymat = 7 }))
     ∷ []
 unfolding is_start is_message is_tick is_entry are_entries is_announcement plain_of call_of
 in_hex = refl
@@ -65,19 +65,19 @@ calls : map read
     ∷ written (4 ∷ last64 ∷ 65535 ∷ []) [] []
     ∷ written (4 ∷ 105 ∷ 0 ∷ []) [] []
     ∷ [])
-    ≡ Start (record {
+    ≡ Some (Start (record {
       time = last64;
       outbound = last32;
       inbound = last32;
       lifetime = last32;
       address = record { high = 0x20010db800000000; low = 1 };
-    })
-    ∷ Message (record { authentic = true; room = 65535 })
-    ∷ Message (record { authentic = false; room = 0 })
-    ∷ Arrival 1000
-    ∷ Send last64
-    ∷ Tick (record { time = last64; room = 65535 })
-    ∷ Tick (record { time = 105; room = 0 })
+    }))
+    ∷ Some (Message (record { authentic = true; room = 65535 }))
+    ∷ Some (Message (record { authentic = false; room = 0 }))
+    ∷ Some (Arrival 1000)
+    ∷ Some (Send last64)
+    ∷ Some (Tick (record { time = last64; room = 65535 }))
+    ∷ Some (Tick (record { time = 105; room = 0 }))
     ∷ []
 unfolding bytes_of section_bytes record_bytes numbers is_start is_message is_tick is_entry are_entries is_announcement plain_of call_of
 calls = refl
@@ -116,7 +116,7 @@ malformed : map read
     ∷ written (0 ∷ 1 ∷ 1 ∷ 1 ∷ []) place []
     ∷ written (0 ∷ 1 ∷ 1 ∷ 1 ∷ 1 ∷ 1 ∷ []) place []
     ∷ [])
-    ≡ replicate 29 Malformed
+    ≡ replicate 29 None
 unfolding bytes_of section_bytes record_bytes numbers is_start is_message is_tick is_entry are_entries is_announcement plain_of call_of
 malformed = refl
 
@@ -140,12 +140,12 @@ announcements : map read
     ∷ written (5 ∷ 65535 ∷ (entry 255 255 last32 1 ++ (last32 ∷ 65535 ∷ []))) place []
     ∷ written (5 ∷ 0 ∷ (entry 0 0 0 0 ++ (0 ∷ 0 ∷ []))) place []
     ∷ [])
-    ≡ Announce (record { room = 256; count = 0; inbound = 0x1002; keymat = 7 })
-    ∷ Announce (record { room = 256; count = 1; inbound = 0x1002; keymat = 7 })
-    ∷ Announce (record { room = 256; count = 2; inbound = 0x1002; keymat = 7 })
-    ∷ Announce (record { room = 256; count = 9; inbound = 0x1002; keymat = 7 })
-    ∷ Announce (record { room = 65535; count = 1; inbound = last32; keymat = 65535 })
-    ∷ Announce (record { room = 0; count = 1; inbound = 0; keymat = 0 })
+    ≡ Some (Announce (record { room = 256; count = 0; inbound = 0x1002; keymat = 7 }))
+    ∷ Some (Announce (record { room = 256; count = 1; inbound = 0x1002; keymat = 7 }))
+    ∷ Some (Announce (record { room = 256; count = 2; inbound = 0x1002; keymat = 7 }))
+    ∷ Some (Announce (record { room = 256; count = 9; inbound = 0x1002; keymat = 7 }))
+    ∷ Some (Announce (record { room = 65535; count = 1; inbound = last32; keymat = 65535 }))
+    ∷ Some (Announce (record { room = 0; count = 1; inbound = 0; keymat = 0 }))
     ∷ []
 unfolding bytes_of section_bytes record_bytes numbers plain places is_start is_message is_tick is_entry are_entries is_announcement plain_of call_of
 announcements = refl
@@ -173,6 +173,6 @@ no_announcements : map read
     ∷ written (4 ∷ 256 ∷ (entry 0 1 60 0 ++ (0x1002 ∷ 7 ∷ []))) place []
     ∷ written (6 ∷ 256 ∷ (entry 0 1 60 0 ++ (0x1002 ∷ 7 ∷ []))) place []
     ∷ [])
-    ≡ replicate 18 Malformed
+    ≡ replicate 18 None
 unfolding bytes_of section_bytes record_bytes numbers plain places is_start is_message is_tick is_entry are_entries is_announcement plain_of call_of
 no_announcements = refl

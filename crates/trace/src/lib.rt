@@ -1,15 +1,16 @@
-// A record of a trace as the call that it stands for. Depends on entries, sections, address, reply_form, boolean.
+// A record of a trace as the call that it stands for. Depends on entries, sections, address, reply_form.
 #![tactic(auto)]
 
-ghost use Rattle.std.specs.Prelude.{◌≡◌, true};
+ghost use Rattle.std.specs.Prelude.{◌≡◌, cond};
 ghost use Rattle.trace.specs.Calls.{has_sizes, is_start, start_of, is_message, message_of, is_tick, tick_of, has_list_sizes, is_announcement, announcement_of, plain_of, call_of, nonces_of};
 
 use address::Address;
-use entries::{ADDRESS_SIZE, NUMBER_SIZE, are_entries, entry_count, is_narrow, number};
+use entries::{ADDRESS_SIZE, NUMBER_SIZE, are_entries, entry_count, mark, narrow, number};
 use reply_form::NONCE_COUNT;
 use sections::{Record, Section};
+use std::array;
 
-// The first number of a record says which call it is.
+// The first number of a record says which call it is. A trace may hold any number there, so these are constants and no enum.
 const START: u64 = 0;
 
 const MESSAGE: u64 = 1;
@@ -22,11 +23,8 @@ const TICK: u64 = 4;
 
 const ANNOUNCE: u64 = 5;
 
-// The bytes of the four numbers of an announcement's entry, which are also those of its other four.
+// The bytes of the four numbers of an announcement's entry, which are also those of its other four numbers.
 const ENTRY_SIZE: usize = 32;
-
-// The last number of 16 bits.
-const SHORT_LAST: u64 = 65535;
 
 // The longest buffer that a trace may name: 16 bits hold its length.
 pub const ROOM_LIMIT: usize = 65535;
@@ -64,7 +62,7 @@ pub struct AnnounceCall {
     pub keymat: u16,
 }
 
-// The call that a record stands for, or none that its sections fit.
+// The call that a record stands for.
 #[derive(Clone, Copy)]
 pub enum Call {
     Start(StartCall),
@@ -73,220 +71,134 @@ pub enum Call {
     Send(u64),
     Tick(TickCall),
     Announce(AnnounceCall),
-    Malformed,
 }
 
 // The sections have these sizes.
 fn has_sizes(found: Record, numbers: usize, body: usize, nonces: usize) -> bool
     ensures { result ≡ has_sizes found numbers body nonces }
 {
-    boolean::both(
-        sections::size(found.numbers) == numbers,
-        boolean::both(
-            sections::size(found.body) == body,
-            sections::size(found.nonces) == nonces,
-        ),
-    )
+    sections::size(found.numbers) == numbers
+        && sections::size(found.body) == body
+        && sections::size(found.nonces) == nonces
 }
 
+// What a start is given, where the record stands for one.
 #[tactic(auto, unfolding(crate::specs::Calls::is_start))]
-fn is_start(s: &[u8], found: Record) -> bool
-    ensures { result ≡ is_start s.now found }
+fn start_of(s: &[u8], found: Record) -> Option<StartCall>
+    ensures { result ≡ cond (is_start s.now found) (Some (start_of s.now found)) None }
 {
     let numbers = found.numbers;
-    boolean::both(
-        has_sizes(found, 5 * NUMBER_SIZE, ADDRESS_SIZE, 0),
-        boolean::both(
-            number(s, numbers, 0) == START,
-            boolean::both(
-                is_narrow(number(s, numbers, 2)),
-                boolean::both(
-                    is_narrow(number(s, numbers, 3)),
-                    is_narrow(number(s, numbers, 4)),
-                ),
-            ),
-        ),
-    )
-}
-
-fn start_of(s: &[u8], found: Record) -> StartCall
-    requires { is_start s.now found ≡ true }
-    ensures { result ≡ start_of s.now found }
-{
-    let numbers = found.numbers;
-    let body = found.body;
-    let address = address::address_at(s, body.start);
-    StartCall {
-        time: number(s, numbers, 1),
-        outbound: number(s, numbers, 2) as u32,
-        inbound: number(s, numbers, 3) as u32,
-        lifetime: number(s, numbers, 4) as u32,
-        address,
+    if !has_sizes(found, 5 * NUMBER_SIZE, ADDRESS_SIZE, 0) || number(s, numbers, 0) != START {
+        return None;
     }
+    Some(StartCall {
+        time: number(s, numbers, 1),
+        outbound: narrow(number(s, numbers, 2))?,
+        inbound: narrow(number(s, numbers, 3))?,
+        lifetime: narrow(number(s, numbers, 4))?,
+        address: address::address_at(s, found.body.start),
+    })
 }
 
+// The same for a message. Its packet is of any size.
 #[tactic(auto, unfolding(crate::specs::Calls::is_message))]
-fn is_message(s: &[u8], found: Record) -> bool
-    ensures { result ≡ is_message s.now found }
+fn message_of(s: &[u8], found: Record) -> Option<MessageCall>
+    ensures { result ≡ cond (is_message s.now found) (Some (message_of s.now found)) None }
 {
     let numbers = found.numbers;
-    let body = found.body;
-    boolean::both(
-        has_sizes(
-            found,
-            3 * NUMBER_SIZE,
-            sections::size(body),
-            NONCE_COUNT * NUMBER_SIZE,
-        ),
-        boolean::both(
-            number(s, numbers, 0) == MESSAGE,
-            boolean::both(
-                number(s, numbers, 1) <= 1,
-                number(s, numbers, 2) <= ROOM_LIMIT as u64,
-            ),
-        ),
-    )
-}
-
-fn message_of(s: &[u8], found: Record) -> MessageCall
-    requires { is_message s.now found ≡ true }
-    ensures { result ≡ message_of s.now found }
-{
-    let numbers = found.numbers;
-    MessageCall {
-        authentic: number(s, numbers, 1) == 1,
-        room: number(s, numbers, 2) as u16,
+    let packet = sections::size(found.body);
+    if !has_sizes(found, 3 * NUMBER_SIZE, packet, NONCE_COUNT * NUMBER_SIZE)
+        || number(s, numbers, 0) != MESSAGE
+    {
+        return None;
     }
+    Some(MessageCall {
+        authentic: mark(number(s, numbers, 1))?,
+        room: u16::try_from(number(s, numbers, 2)).ok()?,
+    })
 }
 
+// The same for a tick.
 #[tactic(auto, unfolding(crate::specs::Calls::is_tick))]
-fn is_tick(s: &[u8], found: Record) -> bool
-    ensures { result ≡ is_tick s.now found }
+fn tick_of(s: &[u8], found: Record) -> Option<TickCall>
+    ensures { result ≡ cond (is_tick s.now found) (Some (tick_of s.now found)) None }
 {
     let numbers = found.numbers;
-    boolean::both(
-        has_sizes(found, 3 * NUMBER_SIZE, 0, 0),
-        boolean::both(
-            number(s, numbers, 0) == TICK,
-            number(s, numbers, 2) <= ROOM_LIMIT as u64,
-        ),
-    )
-}
-
-fn tick_of(s: &[u8], found: Record) -> TickCall
-    requires { is_tick s.now found ≡ true }
-    ensures { result ≡ tick_of s.now found }
-{
-    let numbers = found.numbers;
-    TickCall {
-        time: number(s, numbers, 1),
-        room: number(s, numbers, 2) as u16,
+    if !has_sizes(found, 3 * NUMBER_SIZE, 0, 0) || number(s, numbers, 0) != TICK {
+        return None;
     }
+    Some(TickCall {
+        time: number(s, numbers, 1),
+        room: u16::try_from(number(s, numbers, 2)).ok()?,
+    })
 }
 
-// The sections have the sizes of an announcement: the first by a quotient, since a product might not fit.
-#[tactic(auto, using(crate::proofs::Widths::list_size))]
+// The sections have the sizes of an announcement: four numbers for each entry and four more, and an address for each entry.
 fn has_list_sizes(found: Record) -> bool
     ensures { result ≡ has_list_sizes found }
 {
-    let numbers = sections::size(found.numbers);
     let count = entry_count(found);
-    boolean::both(
-        boolean::both(numbers % ENTRY_SIZE == 0, numbers / ENTRY_SIZE == count + 1),
-        boolean::both(
-            sections::size(found.body) == ADDRESS_SIZE * count,
-            sections::size(found.nonces) == 0,
-        ),
-    )
+    let numbers = (count + 1).checked_mul(ENTRY_SIZE);
+    numbers.is_some_and(|size| has_sizes(found, size, ADDRESS_SIZE * count, 0))
 }
 
+// The same for an announcement. Its list may have more entries than the call takes.
 #[tactic(auto, unfolding(crate::specs::Calls::is_announcement))]
-fn is_announcement(s: &[u8], found: Record) -> bool
-    ensures { result ≡ is_announcement s.now found }
+fn announcement_of(s: &[u8], found: Record) -> Option<AnnounceCall>
+    ensures { result ≡ cond (is_announcement s.now found) (Some (announcement_of s.now found)) None }
 {
     let numbers = found.numbers;
-    let place = 2 + 4 * entry_count(found);
-    boolean::both(
-        has_list_sizes(found),
-        boolean::both(
-            number(s, numbers, 0) == ANNOUNCE,
-            boolean::both(
-                number(s, numbers, 1) <= ROOM_LIMIT as u64,
-                boolean::both(
-                    is_narrow(number(s, numbers, place)),
-                    boolean::both(
-                        number(s, numbers, place + 1) <= SHORT_LAST,
-                        are_entries(s, found),
-                    ),
-                ),
-            ),
-        ),
-    )
-}
-
-fn announcement_of(s: &[u8], found: Record) -> AnnounceCall
-    requires { is_announcement s.now found ≡ true }
-    ensures { result ≡ announcement_of s.now found }
-{
-    let numbers = found.numbers;
+    if !has_list_sizes(found) || number(s, numbers, 0) != ANNOUNCE || !are_entries(s, found) {
+        return None;
+    }
     let count = entry_count(found);
     let place = 2 + 4 * count;
-    AnnounceCall {
-        room: number(s, numbers, 1) as u16,
+    Some(AnnounceCall {
+        room: u16::try_from(number(s, numbers, 1)).ok()?,
         count,
-        inbound: number(s, numbers, place) as u32,
-        keymat: number(s, numbers, place + 1) as u16,
-    }
+        inbound: narrow(number(s, numbers, place))?,
+        keymat: u16::try_from(number(s, numbers, place + 1)).ok()?,
+    })
 }
 
 // The call with one argument that a number names.
 #[tactic(auto, unfolding(crate::specs::Calls::plain_of))]
-fn plain_of(which: u64, argument: u64) -> Call
+fn plain_of(which: u64, argument: u64) -> Option<Call>
     ensures { result ≡ plain_of which argument }
 {
     match which {
-        ARRIVAL => Call::Arrival(argument),
-        SEND => Call::Send(argument),
-        _ => Call::Malformed,
+        ARRIVAL => Some(Call::Arrival(argument)),
+        SEND => Some(Call::Send(argument)),
+        _ => None,
     }
 }
 
-// The call that a record of s stands for.
+// The call that a record of s stands for; none where its sections do not fit any.
 #[tactic(auto, unfolding(crate::specs::Calls::call_of))]
-pub fn call_in(s: &[u8], found: Record) -> Call
+pub fn call_in(s: &[u8], found: Record) -> Option<Call>
     ensures { result ≡ call_of s.now found }
 {
-    let numbers = found.numbers;
-    if is_start(s, found) {
-        return Call::Start(start_of(s, found));
+    if let Some(start) = start_of(s, found) {
+        return Some(Call::Start(start));
     }
-    if is_message(s, found) {
-        return Call::Message(message_of(s, found));
+    if let Some(message) = message_of(s, found) {
+        return Some(Call::Message(message));
     }
-    if is_tick(s, found) {
-        return Call::Tick(tick_of(s, found));
+    if let Some(tick) = tick_of(s, found) {
+        return Some(Call::Tick(tick));
     }
-    if is_announcement(s, found) {
-        return Call::Announce(announcement_of(s, found));
+    if let Some(announcement) = announcement_of(s, found) {
+        return Some(Call::Announce(announcement));
     }
-    if has_sizes(found, 2 * NUMBER_SIZE, 0, 0) {
-        return plain_of(number(s, numbers, 0), number(s, numbers, 1));
+    if !has_sizes(found, 2 * NUMBER_SIZE, 0, 0) {
+        return None;
     }
-    Call::Malformed
+    plain_of(number(s, found.numbers, 0), number(s, found.numbers, 1))
 }
 
 // The eight nonces in a section.
 pub fn nonces_in(s: &[u8], nonces: Section) -> [u64; NONCE_COUNT]
     ensures { result ≡ nonces_of s.now nonces }
 {
-    [
-        number(s, nonces, 0),
-        number(s, nonces, 1),
-        number(s, nonces, 2),
-        number(s, nonces, 3),
-        number(s, nonces, 4),
-        number(s, nonces, 5),
-        number(s, nonces, 6),
-        number(s, nonces, 7),
-    ]
+    array::from_fn(|k| number(s, nonces, k))
 }

@@ -3,20 +3,22 @@ use mathlib.Core.Path.{◌≡◌}
 use mathlib.Core.Bool.{Bool, false}
 use mathlib.Core.List.{List}
 use Prim.Native.Nat.{ℕ, zero, suc, ◌≤◌}
-use lib.ListN.{length, take}
+use lib.ListN.{length}
 use native.Mathlib.Omega.{arith}
 use borrow.Author.Tests.{ltb-false}
 use Rattle.packet.specs.declared.Message.{Message}
-use Rattle.packet.specs.declared.Message.TheVariants.{Refused, Move, Reply, PeerCheck}
+use Rattle.packet.specs.declared.Message.TheVariants.{Move, Reply, PeerCheck}
 use Rattle.packet.specs.Readings.{reading_of, opaque_of}
-use Rattle.locator.specs.declared.ListedLocator.{ListedLocator}
+use Rattle.locator_set.specs.Sets.{listed_in}
+use Rattle.refusal.specs.declared.Refusal.{Refusal}
+use Rattle.std.specs.Prelude.{Result, Ok, Err}
 use Rattle.slot.specs.Found.{slot_count}
 use Rattle.readdress.proofs.Moved.{checks_most}
 use Rattle.reply_form.specs.Replies.{move_size, response_bytes}
 use Rattle.reply_form.proofs.Sizes.{ack_length, move_length, response_length, overwritten_length}
 use Rattle.association.specs.declared.Association.{Association}
 use Rattle.update.specs.Refusals.{reply_room, opaque_limit, refusal22}
-use Rattle.update.specs.Messages.{Handled, differs, checks_of, handle_message, handled, buffer_after}
+use Rattle.update.specs.Messages.{Handled, differs, checks_of, handle_message, handle_reading, handled, buffer_after}
 use Rattle.update.proofs.Cases.{reply_ends, move_ends, check_ends, message_ends}
 
 -- ---- a reply fits
@@ -31,14 +33,13 @@ Fits room h = length h.reply ≤ room
 pub response_fits : (id : ℕ) (opaque : List ℕ) → refusal22 opaque ≡ false → length (response_bytes id opaque) ≤ reply_room
 response_fits id opaque q = omega (arith, response_length id opaque, ltb-false opaque_limit (length opaque) q)
 
-message_fits : (a : Association) (packet : List ℕ) (g : Message) (listed : List ListedLocator) (nonces : List ℕ) → length a.slots ≡ slot_count →
-    Fits reply_room (handle_message a packet g listed nonces)
-message_fits a packet (Refused why) listed nonces whole = omega arith
-message_fits a packet (PeerCheck c) listed nonces whole =
+message_fits : (a : Association) (packet : List ℕ) (g : Message) (nonces : List ℕ) → length a.slots ≡ slot_count →
+    Fits reply_room (handle_message a packet g nonces)
+message_fits a packet (PeerCheck c) nonces whole =
     check_ends (Fits reply_room) a (λ n. omega arith) c.id (opaque_of packet c) (response_fits c.id (opaque_of packet c)) (response_fits c.id (opaque_of packet c))
-message_fits a packet (Reply e) listed nonces whole = reply_ends (Fits reply_room) a (λ n. omega arith) e (omega arith)
-message_fits a packet (Move m) listed nonces whole =
-    let set = take m.count listed in
+message_fits a packet (Reply e) nonces whole = reply_ends (Fits reply_room) a (λ n. omega arith) e (omega arith)
+message_fits a packet (Move m s) nonces whole =
+    let set = listed_in s in
     let acked = ack_length m.id in
     move_ends (Fits reply_room) a (λ n. omega arith) m set nonces (omega arith)
     (λ q r.
@@ -46,13 +47,18 @@ message_fits a packet (Move m) listed nonces whole =
     let fits = move_fits (checks_of a m set) (checks_most a.time (differs a m) m.echo set a.preferred a.slots whole) in
     omega arith)
 
+reading_fits : (a : Association) (packet : List ℕ) (r : Result Message Refusal) (nonces : List ℕ) → length a.slots ≡ slot_count →
+    Fits reply_room (handle_reading a packet r nonces)
+reading_fits a packet (Err why) nonces whole = omega arith
+reading_fits a packet (Ok g) nonces whole = message_fits a packet g nonces whole
+
 module _ (a : Association) (packet : List ℕ) (authentic : Bool) (nonces buffer : List ℕ) where
   pub reply_fits : length a.slots ≡ slot_count → length (handled a packet authentic nonces (length buffer)).reply ≤ length buffer
   reply_fits whole =
       message_ends (Fits (length buffer)) a (λ n. omega arith) packet authentic nonces (length buffer)
       (λ p q r.
       let room = ltb-false (length buffer) reply_room q in
-      let fits = message_fits a packet (reading_of packet).message (reading_of packet).listed nonces whole in
+      let fits = reading_fits a packet (reading_of packet) nonces whole in
       omega arith)
 
   -- the buffer stays as long as it was

@@ -3,15 +3,18 @@ use mathlib.Core.Path.{◌≡◌, refl, ◌∙◌}
 use mathlib.Core.Bool.{Bool, false}
 use mathlib.Core.List.{List}
 use Prim.Native.Nat.{ℕ, ◌+◌}
-use lib.ListN.{length, take}
+use lib.ListN.{length}
 use native.Mathlib.Omega.{arith}
 use borrow.Author.Tests.{ltb-false, lt-leb}
 use Rattle.packet.specs.declared.EchoResponse.{EchoResponse}
 use Rattle.packet.specs.declared.MoveFields.{MoveFields}
 use Rattle.packet.specs.declared.Message.{Message}
-use Rattle.packet.specs.declared.Message.TheVariants.{Refused, Move, Reply, PeerCheck}
+use Rattle.packet.specs.declared.Message.TheVariants.{Move, Reply, PeerCheck}
 use Rattle.packet.specs.Readings.{reading_of, opaque_of}
 use Rattle.locator.specs.declared.ListedLocator.{ListedLocator}
+use Rattle.locator_set.specs.Sets.{listed_in}
+use Rattle.refusal.specs.declared.Refusal.{Refusal}
+use Rattle.std.specs.Prelude.{Result, Ok, Err}
 use Rattle.slot.specs.Found.{slot_count}
 use Rattle.check_times.proofs.Moments.{good}
 use Rattle.slots.proofs.Kept.{clear_pairs, pairs_clear, Good, good_all, all_good}
@@ -27,7 +30,7 @@ use Rattle.association.specs.Form.{id_limit, beyond}
 use Rattle.association.proofs.Sound.{sound, not_refused, Formed, Keeps}
 use Rattle.update.specs.Refusals.{refusal11}
 use Rattle.update.proofs.Cases.{reply_ends, move_ends, check_ends, message_ends}
-use Rattle.update.specs.Messages.{Handled, after_reply, after_check, differs, placement, checks_of, after_move, handle_message, message_of}
+use Rattle.update.specs.Messages.{Handled, after_reply, after_check, differs, placement, checks_of, after_move, handle_message, handle_reading, message_of}
 
 abbrev LeavesFormed : Handled → Type 0
 LeavesFormed h = Formed h.left
@@ -87,18 +90,22 @@ module _ (a : Association) (m : MoveFields) (set : List ListedLocator) (nonces :
             });
       }
 
-handled_message_formed : (a : Association) (packet : List ℕ) (g : Message) (listed : List ListedLocator) (nonces : List ℕ) → length nonces ≡ nonce_count → Formed a →
-    LeavesFormed (handle_message a packet g listed nonces)
-handled_message_formed a packet (Refused why) listed nonces eight p = p
-handled_message_formed a packet (PeerCheck c) listed nonces eight p =
+handled_message_formed : (a : Association) (packet : List ℕ) (g : Message) (nonces : List ℕ) → length nonces ≡ nonce_count → Formed a →
+    LeavesFormed (handle_message a packet g nonces)
+handled_message_formed a packet (PeerCheck c) nonces eight p =
     check_ends LeavesFormed a (λ n. p) c.id (opaque_of packet c) (λ q. p) (λ q. check_formed a c.id p)
-handled_message_formed a packet (Move m) listed nonces eight p =
-    move_ends LeavesFormed a (λ n. p) m (take m.count listed) nonces p (λ q r. move_formed a m (take m.count listed) nonces eight p q r)
-handled_message_formed a packet (Reply e) listed nonces eight p = reply_ends LeavesFormed a (λ n. p) e (reply_formed a e p)
+handled_message_formed a packet (Move m s) nonces eight p =
+    move_ends LeavesFormed a (λ n. p) m (listed_in s) nonces p (λ q r. move_formed a m (listed_in s) nonces eight p q r)
+handled_message_formed a packet (Reply e) nonces eight p = reply_ends LeavesFormed a (λ n. p) e (reply_formed a e p)
+
+handled_reading_formed : (a : Association) (packet : List ℕ) (r : Result Message Refusal) (nonces : List ℕ) → length nonces ≡ nonce_count → Formed a →
+    LeavesFormed (handle_reading a packet r nonces)
+handled_reading_formed a packet (Err why) nonces eight p = p
+handled_reading_formed a packet (Ok g) nonces eight p = handled_message_formed a packet g nonces eight p
 
 -- no message makes an association that refusal 0 refuses
 pub message_keeps : (packet : List ℕ) (authentic : Bool) (nonces : List ℕ) → length nonces ≡ nonce_count → (buffer : List ℕ) →
     Keeps (λ a. (message_of a packet authentic nonces buffer).association)
 message_keeps packet authentic nonces eight buffer a p =
     message_ends LeavesFormed a (λ n. p) packet authentic nonces (length buffer)
-    (λ q r s. handled_message_formed a packet (reading_of packet).message (reading_of packet).listed nonces eight p)
+    (λ q r s. handled_reading_formed a packet (reading_of packet) nonces eight p)

@@ -7,8 +7,8 @@ use lib.ListN.{length, take}
 use native.Mathlib.Omega.{arith}
 use Rattle.address.specs.declared.Address.{Address}
 use Rattle.packet.specs.declared.MoveFields.{MoveFields}
-use Rattle.locator.specs.declared.ListedLocator.{ListedLocator}
-use Rattle.locator_set.specs.Sets.{set_limit}
+use Rattle.locator_set.specs.declared.LocatorSet.{LocatorSet}
+use Rattle.locator_set.specs.Sets.{set_limit, listed_in}
 use Rattle.slot.specs.Found.{status_in}
 use Rattle.slots.proofs.Kept.{clear_pairs}
 use Rattle.readdress.specs.Steps.{is_listed}
@@ -23,11 +23,11 @@ take_most zero xs = omega arith
 take_most (suc n) [] = omega arith
 take_most (suc n) (x ∷ xs) = let r = take_most n xs in omega arith
 
-pub move_lists : (x : Address) (a : Association) (m : MoveFields) (listed : List ListedLocator) (nonces : List ℕ) → m.count ≤ set_limit → Formed a →
-    is_listed x (take m.count listed) ≡ true → is_dead (status_in x (after_move a m (take m.count listed) nonces).slots) ≡ false
+pub move_lists : (x : Address) (a : Association) (m : MoveFields) (set : LocatorSet) (nonces : List ℕ) → set.count ≤ set_limit → Formed a →
+    is_listed x (listed_in set) ≡ true → is_dead (status_in x (after_move a m (listed_in set) nonces).slots) ≡ false
 unfolding after_move
-move_lists x a m listed nonces few p l =
+move_lists x a m set nonces few p l =
     let s = sound a p.unrefused in
-    let most = take_most m.count listed in
-    listed_live a.time (differs a m) m.echo (take m.count listed) a.preferred a.slots p.whole a.next nonces (omega arith)
+    let most = take_most set.count set.listed in
+    listed_live a.time (differs a m) m.echo (listed_in set) a.preferred a.slots p.whole a.next nonces (omega arith)
     (clear_pairs a.slots s.apart) x l

@@ -3,24 +3,26 @@ use mathlib.Core.Path.{◌≡◌, refl, sym, ◌∙◌}
 use mathlib.Core.Bool.{Bool, true, false}
 use mathlib.Core.List.{List, []}
 use Prim.Native.Nat.{ℕ}
-use lib.ListN.{length, take}
+use lib.ListN.{length}
 use Rattle.boolean.proofs.Laws.{apart}
 use Rattle.packet.specs.declared.Message.{Message}
-use Rattle.packet.specs.declared.Message.TheVariants.{Refused, Move, Reply, PeerCheck}
+use Rattle.packet.specs.declared.Message.TheVariants.{Move, Reply, PeerCheck}
 use Rattle.packet.specs.Readings.{reading_of, opaque_of}
-use Rattle.locator.specs.declared.ListedLocator.{ListedLocator}
+use Rattle.locator_set.specs.Sets.{listed_in}
 use Rattle.association.specs.declared.Association.{Association}
-use Rattle.update.specs.declared.MessageOutcome.{MessageOutcome}
-use Rattle.update.specs.declared.MessageOutcome.TheVariants.{Moved, Replied, Responded, Repeated, Declined}
-use Rattle.update.specs.Messages.{Handled, after_move, handle_message, handled, buffer_after}
+use Rattle.update.specs.Messages.{Handled, after_move, handle_message, handle_reading, handled, buffer_after}
 use Rattle.update.proofs.Cases.{reply_ends, move_ends, check_ends, message_ends}
+use Rattle.std.specs.Prelude.{Err, Ok, Result}
+use Rattle.refusal.specs.declared.Refusal.{Refusal}
+use Rattle.update.specs.declared.Received.{Received}
+use Rattle.update.specs.declared.Received.TheVariants.{Moved, Repeated, Replied, Responded}
 
-abbrev pub is_declined : MessageOutcome → Bool
-is_declined Moved = false
-is_declined Replied = false
-is_declined Responded = false
-is_declined Repeated = false
-is_declined (Declined why) = true
+abbrev pub is_declined : Result Received Refusal → Bool
+is_declined (Ok Moved) = false
+is_declined (Ok Replied) = false
+is_declined (Ok Responded) = false
+is_declined (Ok Repeated) = false
+is_declined (Err why) = true
 
 pub record Untouched (a : Association) (h : Handled) : Type 0 where
   pub aged : a.aged ≡ h.left.aged
@@ -36,23 +38,26 @@ refused_untouched a h p q = record { aged = rw p; credit = rw p; association = �
 accepted_untouched : (a : Association) (h : Handled) → is_declined h.outcome ≡ false → a.aged ≡ h.left.aged → a.credit ≡ h.left.credit → Untouched a h
 accepted_untouched a h n p q = record { aged = p; credit = q; association = λ d. apart (sym d ∙ n); reply = λ d. apart (sym d ∙ n) }
 
-pub message_untouched : (a : Association) (packet : List ℕ) (g : Message) (listed : List ListedLocator) (nonces : List ℕ) →
-    Untouched a (handle_message a packet g listed nonces)
+message_untouched : (a : Association) (packet : List ℕ) (g : Message) (nonces : List ℕ) →
+    Untouched a (handle_message a packet g nonces)
 unfolding after_move
-message_untouched a packet (Refused why) listed nonces = refused_untouched a _ refl refl
-message_untouched a packet (Reply e) listed nonces = reply_ends (Untouched a) a (λ n. refused_untouched a _ refl refl) e (accepted_untouched a _ refl refl refl)
-message_untouched a packet (PeerCheck c) listed nonces =
+message_untouched a packet (Reply e) nonces = reply_ends (Untouched a) a (λ n. refused_untouched a _ refl refl) e (accepted_untouched a _ refl refl refl)
+message_untouched a packet (PeerCheck c) nonces =
     check_ends (Untouched a) a (λ n. refused_untouched a _ refl refl) c.id (opaque_of packet c) (λ q. accepted_untouched a _ refl refl refl)
     (λ q. accepted_untouched a _ refl refl refl)
-message_untouched a packet (Move m) listed nonces =
-    move_ends (Untouched a) a (λ n. refused_untouched a _ refl refl) m (take m.count listed) nonces (accepted_untouched a _ refl refl refl)
+message_untouched a packet (Move m s) nonces =
+    move_ends (Untouched a) a (λ n. refused_untouched a _ refl refl) m (listed_in s) nonces (accepted_untouched a _ refl refl refl)
     (λ q r. accepted_untouched a _ refl refl refl)
+
+pub reading_untouched : (a : Association) (packet : List ℕ) (r : Result Message Refusal) (nonces : List ℕ) → Untouched a (handle_reading a packet r nonces)
+reading_untouched a packet (Err why) nonces = refused_untouched a _ refl refl
+reading_untouched a packet (Ok g) nonces = message_untouched a packet g nonces
 
 module _ (a : Association) (packet : List ℕ) (authentic : Bool) (nonces buffer : List ℕ) where
   untouched : Untouched a (handled a packet authentic nonces (length buffer))
   untouched =
       message_ends (Untouched a) a (λ n. refused_untouched a _ refl refl) packet authentic nonces (length buffer)
-      (λ p q r. message_untouched a packet (reading_of packet).message (reading_of packet).listed nonces)
+      (λ p q r. reading_untouched a packet (reading_of packet) nonces)
 
   pub declined_association : is_declined (handled a packet authentic nonces (length buffer)).outcome ≡ true → (handled a packet authentic nonces (length buffer)).left ≡ a
   declined_association d = untouched.association d

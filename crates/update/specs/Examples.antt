@@ -1,6 +1,6 @@
 -- Worked examples, computed from the definitions: refusals 1, 7, 9 and 11 at their edges, what is Repeated, the order of a Move's refusals,
 -- whole answers to messages that are read already, and to a Reply by its bytes. `cases` has more of these.
-use Rattle.std.specs.Prelude.{ℕ, ◌^◌, ◌≡◌, refl, true, false, List, [], ◌∷◌, ◌++◌, map, replicate}
+use Rattle.std.specs.Prelude.{ℕ, ◌^◌, ◌≡◌, refl, true, false, List, [], ◌∷◌, ◌++◌, map, replicate, Err, None, Ok, Some}
 use Rattle.octets.specs.Records as records
 use Rattle.octets.specs.Written.{bytes_of}
 use Rattle.octets.specs.ExamplesHex.{hex}
@@ -12,7 +12,6 @@ use Rattle.frame.specs.Survey.{occurs}
 use Rattle.packet.specs.Kinds.{is_move, is_reply}
 use Rattle.packet.specs.Readings.{kind_of, reading_of}
 use Rattle.slot.specs.Clashes.{clash}
-use Rattle.slots.specs.Rules.{clashing}
 use Rattle.association.specs.Form.{refusal0}
 use Rattle.packet.specs.declared.EchoResponse.{EchoResponse}
 use Rattle.packet.specs.declared.EchoResponse.TheVariants.{Absent, Nonce}
@@ -22,26 +21,23 @@ use Rattle.slot.specs.declared.Status.{Status}
 use Rattle.slot.specs.declared.Status.TheVariants.{Unverified, Active}
 use Rattle.slot.specs.declared.Slot.{Slot}
 use Rattle.slot.specs.Found.{empty_slot, slot_of}
-use Rattle.path.specs.declared.Preference.TheVariants.{Prefers}
-use Rattle.path.specs.Choices.{lowest}
-use Rattle.association.specs.declared.PeerId.TheVariants.{NoneSeen, Highest}
 use Rattle.association.specs.declared.Association.{Association}
 use Rattle.readdress.specs.Echoes.{verify_all}
-use Rattle.readdress.specs.Steps.{rebind, entry_for, renew_all, retire_all, place_all, marked_slot}
-use Rattle.readdress.specs.Checks.{checked, check_count, twice}
+use Rattle.readdress.specs.Steps.{rebind, renew_all, retire_all}
+use Rattle.readdress.specs.Checks.{checked, check_count}
 use Rattle.readdress.specs.Moves.{settled, placed}
 use Rattle.reply_form.specs.Replies.{ack_bytes, check_bytes, checks_bytes, move_bytes}
-use Rattle.update.specs.declared.MessageOutcome.TheVariants.{Moved, Replied, Repeated, Declined}
 use Rattle.update.specs.Refusals.{refusal1, refusal2, refusal7, repeats, refusal9, refusal11}
 use Rattle.update.specs.Messages.{Handled, after_move, refused, handle_reply, handle_move, handled, answer_of, message_of, buffer_after}
+use Rattle.update.specs.declared.Received.TheVariants.{Moved, Repeated, Replied}
 
 -- ---- single refusals
 -- refusal 1 at 384; refusal 7 and Repeated about the highest seen, 5, and with none seen; refusal 11 at 2^32
 edges : (map refusal1 (0 ∷ 383 ∷ 384 ∷ []) ≡ true ∷ true ∷ false ∷ [])
-    × (map (λ id. refusal7 id (Highest 5)) (4 ∷ 5 ∷ 6 ∷ []) ≡ true ∷ false ∷ false ∷ [])
-    × (map (λ id. repeats id (Highest 5)) (4 ∷ 5 ∷ 6 ∷ []) ≡ false ∷ true ∷ false ∷ [])
-    × (map (λ id. refusal7 id NoneSeen) (0 ∷ 1 ∷ []) ≡ false ∷ false ∷ [])
-    × (map (λ id. repeats id NoneSeen) (0 ∷ 1 ∷ []) ≡ false ∷ false ∷ [])
+    × (map (λ id. refusal7 id (Some 5)) (4 ∷ 5 ∷ 6 ∷ []) ≡ true ∷ false ∷ false ∷ [])
+    × (map (λ id. repeats id (Some 5)) (4 ∷ 5 ∷ 6 ∷ []) ≡ false ∷ true ∷ false ∷ [])
+    × (map (λ id. refusal7 id None) (0 ∷ 1 ∷ []) ≡ false ∷ false ∷ [])
+    × (map (λ id. repeats id None) (0 ∷ 1 ∷ []) ≡ false ∷ false ∷ [])
     × (map (refusal11 4294967295) (0 ∷ 1 ∷ 2 ∷ []) ≡ false ∷ false ∷ true ∷ [])
     × (map (refusal11 4294967296) (0 ∷ 1 ∷ []) ≡ false ∷ true ∷ [])
     × (map refusal2 (true ∷ false ∷ []) ≡ false ∷ true ∷ [])
@@ -56,7 +52,6 @@ refusal_9 : (map (λ old. refusal9 7 old 8 []) (7 ∷ 6 ∷ 8 ∷ 0 ∷ []) ≡ 
     × (map (λ new. refusal9 7 7 new []) (7 ∷ 6 ∷ 8 ∷ 1 ∷ 0 ∷ []) ≡ false ∷ false ∷ false ∷ false ∷ true ∷ [])
     × (map (λ e. refusal9 7 7 8 (entry 1 0 0 ∷ e ∷ [])) (entry 2 1 8 ∷ entry 2 1 7 ∷ entry 2 1 9 ∷ entry 2 0 7 ∷ entry 2 0 9 ∷ entry 2 2 7 ∷ [])
     ≡ false ∷ true ∷ true ∷ false ∷ false ∷ false ∷ [])
-unfolding records.some
 refusal_9 = (refl, refl, refl)
 
 -- ---- messages that are read already
@@ -76,9 +71,9 @@ with outbound peer next expiry s = record {
   time = 100;
   aged = 97;
   credit = 500;
-  peer = Highest peer;
+  peer = Some peer;
   next = next;
-  preferred = Prefers 0;
+  preferred = Some 0;
   slots = holding expiry s ∷ replicate 7 empty_slot;
 }
 
@@ -88,7 +83,7 @@ found next = with 7 5 next 130 (waiting 9 2)
 
 -- a Move with KEYMAT Index 3 that lists address 1
 abbrev fields : (old new id : ℕ) → EchoResponse → MoveFields
-fields old new id e = record { keymat = 3; old = old; new = new; id = id; count = 1; echo = e }
+fields old new id e = record { keymat = 3; old = old; new = new; id = id; echo = e }
 
 -- offered nonces: distinct
 abbrev pub fresh : List ℕ
@@ -112,40 +107,40 @@ order : map (λ (h : Handled). h.outcome)
     ∷ moves (2 ^ 32) 7 8 6 (Nonce 9) fresh
     ∷ moves 4294967295 7 8 6 (Nonce 9) fresh
     ∷ [])
-    ≡ Declined StaleUpdateId
-    ∷ Repeated
-    ∷ Declined UnmatchedEcho
-    ∷ Declined WrongSpi
-    ∷ Declined RepeatedNonce
-    ∷ Declined UpdateIdsUsedUp
-    ∷ Moved
+    ≡ Err StaleUpdateId
+    ∷ (Ok Repeated)
+    ∷ Err UnmatchedEcho
+    ∷ Err WrongSpi
+    ∷ Err RepeatedNonce
+    ∷ Err UpdateIdsUsedUp
+    ∷ (Ok Moved)
     ∷ []
-unfolding handle_move placed settled verify_all rebind renew_all retire_all entry_for place_all lowest check_count twice records.some
+unfolding handle_move placed settled verify_all rebind renew_all retire_all check_count
 order = refl
 
 -- refusal 10: "from those outstanding before": a Move that answers nonce 9 and offers it again
 offered_again : moves 3 7 7 6 (Nonce 9) (9 ∷ 12 ∷ 13 ∷ 14 ∷ 15 ∷ 16 ∷ 17 ∷ 18 ∷ []) ≡ refused 10 (found 3)
-unfolding handle_move verify_all twice records.some
+unfolding handle_move verify_all
 offered_again = refl
 
 -- refusal 11: with the next own Update ID at 2^32 a Move that brings no check is accepted
 none_left : moves (2 ^ 32) 7 7 6 Absent fresh
-    ≡ record { outcome = Moved; reply = ack_bytes 6; checks = 0; keymat = 3; left = with 7 6 (2 ^ 32) 160 (waiting 9 2) }
-unfolding handle_move after_move placed settled verify_all rebind renew_all retire_all entry_for place_all marked_slot lowest check_count checked twice records.some move_bytes checks_bytes parameter_bytes bytes_of
+    ≡ record { outcome = (Ok Moved); reply = ack_bytes 6; checks = 0; keymat = 3; left = with 7 6 (2 ^ 32) 160 (waiting 9 2) }
+unfolding handle_move after_move placed settled verify_all rebind renew_all retire_all check_count checked move_bytes checks_bytes parameter_bytes bytes_of
 none_left = refl
 
 -- whole answers: Moves with a new SPI, above and below the outbound one, one with an echo, a repeat, and a refusal; a Reply, and one that matches
 -- nothing
 answers : (moves 3 7 8 6 Absent fresh
-    ≡ record { outcome = Moved; reply = check_bytes 4097 6 3 11; checks = 1; keymat = 3; left = with 8 6 4 160 (waiting 11 3) })
+    ≡ record { outcome = (Ok Moved); reply = check_bytes 4097 6 3 11; checks = 1; keymat = 3; left = with 8 6 4 160 (waiting 11 3) })
     × (moves 3 7 6 6 Absent fresh
-    ≡ record { outcome = Moved; reply = check_bytes 4097 6 3 11; checks = 1; keymat = 3; left = with 6 6 4 160 (waiting 11 3) })
-    × (moves 3 7 7 6 (Nonce 9) fresh ≡ record { outcome = Moved; reply = ack_bytes 6; checks = 0; keymat = 3; left = with 7 6 3 160 Active })
-    × (moves 3 7 8 5 (Nonce 9) fresh ≡ record { outcome = Repeated; reply = ack_bytes 5; checks = 0; keymat = 0; left = found 3 })
-    × (moves 3 8 8 6 Absent fresh ≡ record { outcome = Declined WrongSpi; reply = []; checks = 0; keymat = 0; left = found 3 })
-    × (handle_reply (found 3) (Nonce 9) ≡ record { outcome = Replied; reply = []; checks = 0; keymat = 0; left = with 7 5 3 130 Active })
+    ≡ record { outcome = (Ok Moved); reply = check_bytes 4097 6 3 11; checks = 1; keymat = 3; left = with 6 6 4 160 (waiting 11 3) })
+    × (moves 3 7 7 6 (Nonce 9) fresh ≡ record { outcome = (Ok Moved); reply = ack_bytes 6; checks = 0; keymat = 3; left = with 7 6 3 160 Active })
+    × (moves 3 7 8 5 (Nonce 9) fresh ≡ record { outcome = (Ok Repeated); reply = ack_bytes 5; checks = 0; keymat = 0; left = found 3 })
+    × (moves 3 8 8 6 Absent fresh ≡ record { outcome = Err WrongSpi; reply = []; checks = 0; keymat = 0; left = found 3 })
+    × (handle_reply (found 3) (Nonce 9) ≡ record { outcome = (Ok Replied); reply = []; checks = 0; keymat = 0; left = with 7 5 3 130 Active })
     × (handle_reply (found 3) (Nonce 10) ≡ refused 8 (found 3))
-unfolding handle_reply handle_move after_move placed settled verify_all rebind renew_all retire_all entry_for place_all marked_slot lowest check_count checked twice records.some move_bytes checks_bytes parameter_bytes bytes_of
+unfolding handle_reply handle_move after_move placed settled verify_all rebind renew_all retire_all check_count checked move_bytes checks_bytes parameter_bytes bytes_of
 answers = (refl, refl, refl, refl, refl, refl, refl)
 
 -- ---- messages by their bytes
@@ -166,16 +161,16 @@ first_four : (handled bad malformed false fresh 383 ≡ refused 0 bad)
     × (handled (found 3) malformed false fresh 383 ≡ refused 1 (found 3))
     × (handled (found 3) malformed false fresh 384 ≡ refused 2 (found 3))
     × (handled (found 3) malformed true fresh 384 ≡ refused 3 (found 3))
-    × (handled (found 3) reply true fresh 384 ≡ record { outcome = Replied; reply = []; checks = 0; keymat = 0; left = with 7 5 3 130 Active })
-unfolding handled handle_reply verify_all refusal0 clashing clash reading_of kind_of is_move is_reply falls occurs records.records records.some refused_type wrong_length
+    × (handled (found 3) reply true fresh 384 ≡ record { outcome = (Ok Replied); reply = []; checks = 0; keymat = 0; left = with 7 5 3 130 Active })
+unfolding handled handle_reply verify_all refusal0 clash reading_of kind_of is_move is_reply falls occurs records.records refused_type wrong_length
 first_four = (refl, refl, refl, refl, refl)
 
 -- "The answer tells reply bytes, number of checks, and KEYMAT Index"; "Bytes past the reply are untouched."
 told : (answer_of (moves 3 7 8 6 Absent fresh)
-    ≡ record { outcome = Moved; written = 48; checks = 1; keymat = 3; association = with 8 6 4 160 (waiting 11 3) })
+    ≡ record { outcome = (Ok Moved); written = 48; checks = 1; keymat = 3; association = with 8 6 4 160 (waiting 11 3) })
     × (message_of (found 3) reply true fresh (replicate 384 0xff)
-    ≡ record { outcome = Replied; written = 0; checks = 0; keymat = 0; association = with 7 5 3 130 Active })
-    × ((message_of (found 3) reply true fresh (replicate 383 0xff)).outcome ≡ Declined ShortReplyBuffer)
+    ≡ record { outcome = (Ok Replied); written = 0; checks = 0; keymat = 0; association = with 7 5 3 130 Active })
+    × ((message_of (found 3) reply true fresh (replicate 383 0xff)).outcome ≡ Err ShortReplyBuffer)
     × (buffer_after (found 3) reply true fresh (replicate 384 0xff) ≡ replicate 384 0xff)
-unfolding handled handle_reply verify_all refusal0 clashing clash reading_of kind_of is_move is_reply falls occurs records.records records.some refused_type wrong_length handle_move after_move placed settled rebind renew_all retire_all entry_for place_all marked_slot lowest check_count checked twice move_bytes checks_bytes parameter_bytes bytes_of
+unfolding handled handle_reply verify_all refusal0 clash reading_of kind_of is_move is_reply falls occurs records.records refused_type wrong_length handle_move after_move placed settled rebind renew_all retire_all check_count checked move_bytes checks_bytes parameter_bytes bytes_of
 told = (refl, refl, refl, refl)

@@ -1,27 +1,25 @@
 -- The message call: from the association, the packet's bytes, the mark, the eight nonces and the length of the reply buffer to the whole answer.
-use Rattle.std.specs.Prelude.{ℕ, ◌+◌, Bool, not, cond, List, [], eqb, length, take}
+use Rattle.std.specs.Prelude.{ℕ, ◌+◌, Bool, not, cond, List, [], eqb, length, Err, Ok, Option, Result, Some}
 use Rattle.refusal.specs.declared.Refusal.{Refusal}
 use Rattle.refusal.specs.Table.{refusal}
 use Rattle.packet.specs.declared.EchoResponse.{EchoResponse}
 use Rattle.packet.specs.declared.MoveFields.{MoveFields}
 use Rattle.packet.specs.declared.Message.{Message}
-use Rattle.packet.specs.declared.Message.TheVariants.{Refused, Move, Reply, PeerCheck}
-use Rattle.packet.specs.declared.Reading.{Reading}
+use Rattle.packet.specs.declared.Message.TheVariants.{Move, Reply, PeerCheck}
 use Rattle.packet.specs.Readings.{reading_of, opaque_of}
+use Rattle.locator_set.specs.Sets.{listed_in}
 use Rattle.locator.specs.declared.ListedLocator.{ListedLocator}
 use Rattle.readdress.specs.declared.Placement.{Placement}
 use Rattle.readdress.specs.Echoes.{verify_all, refusal8}
 use Rattle.readdress.specs.Checks.{refusal10}
 use Rattle.readdress.specs.Moves.{placed, new_checks, new_slots, new_preference}
-use Rattle.association.specs.declared.PeerId.{PeerId}
-use Rattle.association.specs.declared.PeerId.TheVariants.{Highest}
 use Rattle.association.specs.declared.Association.{Association}
 use Rattle.association.specs.Form.{refusal0}
 use Rattle.reply_form.specs.Replies.{ack_bytes, move_bytes, response_bytes, overwritten}
 use Rattle.update.specs.Refusals.{refusal1, refusal2, refusal7, repeats, refusal9, refusal11, refusal22}
-use Rattle.update.specs.declared.MessageOutcome.{MessageOutcome}
-use Rattle.update.specs.declared.MessageOutcome.TheVariants.{Moved, Replied, Responded, Repeated, Declined}
 use Rattle.update.specs.declared.MessageAnswer.{MessageAnswer}
+use Rattle.update.specs.declared.Received.{Received}
+use Rattle.update.specs.declared.Received.TheVariants.{Moved, Repeated, Replied, Responded}
 
 -- ---- what an accepted message leaves
 -- "a Reply by step 1 alone"
@@ -55,8 +53,8 @@ abbrev pub new_outbound : MoveFields → ℕ
 new_outbound m = m.new
 
 -- step 7: "The peer's Update ID is stored."
-abbrev pub new_peer : MoveFields → PeerId
-new_peer m = Highest m.id
+abbrev pub new_peer : MoveFields → Option ℕ
+new_peer m = Some m.id
 
 -- steps 1 to 7: "The inbound SPI stays", and the own Update IDs that checks took are used up
 unfoldable pub after_move : Association → MoveFields → (set : List ListedLocator) → (nonces : List ℕ) → Association
@@ -80,7 +78,7 @@ after_check a id = record {
   time = a.time;
   aged = a.aged;
   credit = a.credit;
-  peer = Highest id;
+  peer = Some id;
   next = a.next;
   preferred = a.preferred;
   slots = a.slots;
@@ -89,7 +87,7 @@ after_check a id = record {
 -- ---- the answers
 -- an answer with the reply's bytes themselves
 pub record Handled : Type 0 where
-  pub outcome : MessageOutcome
+  pub outcome : Result Received Refusal
   pub reply : List ℕ
   pub checks : ℕ
   pub keymat : ℕ
@@ -97,7 +95,7 @@ pub record Handled : Type 0 where
 
 -- "A refusal returns its number and zero reply bytes; association and buffer are as lent."
 abbrev pub declined : Refusal → Association → Handled
-declined why a = record { outcome = Declined why; reply = []; checks = 0; keymat = 0; left = a }
+declined why a = record { outcome = Err why; reply = []; checks = 0; keymat = 0; left = a }
 
 -- the same, by the refusal's number
 abbrev pub refused : (number : ℕ) → Association → Handled
@@ -105,16 +103,16 @@ refused number a = declined (refusal number) a
 
 -- "A Move whose ID equals the highest seen is Repeated: an 8-byte ACK, nothing changed." "KEYMAT Index (0 for a Reply or Repeated)"
 abbrev pub repeated : Association → (id : ℕ) → Handled
-repeated a id = record { outcome = Repeated; reply = ack_bytes id; checks = 0; keymat = 0; left = a }
+repeated a id = record { outcome = (Ok Repeated); reply = ack_bytes id; checks = 0; keymat = 0; left = a }
 
 -- "A Reply writes nothing."
 abbrev pub replied : Association → EchoResponse → Handled
-replied a e = record { outcome = Replied; reply = []; checks = 0; keymat = 0; left = after_reply a e }
+replied a e = record { outcome = (Ok Replied); reply = []; checks = 0; keymat = 0; left = after_reply a e }
 
 -- "The answer tells reply bytes, number of checks, and KEYMAT Index"
 abbrev pub moved : Association → MoveFields → (set : List ListedLocator) → (nonces : List ℕ) → Handled
 moved a m set nonces = record {
-  outcome = Moved;
+  outcome = (Ok Moved);
   reply = move_bytes a.inbound m.id a.next nonces (checks_of a m set);
   checks = checks_of a m set;
   keymat = m.keymat;
@@ -123,11 +121,11 @@ moved a m set nonces = record {
 
 -- a Check "gets an ACK of the peer's ID and an echo response with the same opaque bytes", and "its answer's KEYMAT Index is 0"
 abbrev pub responded : Association → (id : ℕ) → (opaque : List ℕ) → Handled
-responded a id opaque = record { outcome = Responded; reply = response_bytes id opaque; checks = 0; keymat = 0; left = after_check a id }
+responded a id opaque = record { outcome = (Ok Responded); reply = response_bytes id opaque; checks = 0; keymat = 0; left = after_check a id }
 
 -- "a Repeated Check is answered with the bytes it would get if new and changes nothing"
 abbrev pub repeated_check : Association → (id : ℕ) → (opaque : List ℕ) → Handled
-repeated_check a id opaque = record { outcome = Repeated; reply = response_bytes id opaque; checks = 0; keymat = 0; left = a }
+repeated_check a id opaque = record { outcome = (Ok Repeated); reply = response_bytes id opaque; checks = 0; keymat = 0; left = a }
 
 -- ---- the refusals in order
 -- a Reply: refusal 8
@@ -156,16 +154,16 @@ handle_check a id opaque =
     (cond (repeats id a.peer) (repeated_check a id opaque)
     (responded a id opaque)))
 
--- what is read of the packet: one of the refusals 3 to 6, a Move with the locators that it lists, a Reply, or a Check with the packet's opaque bytes
-abbrev pub handle_message : Association → (packet : List ℕ) → Message → (listed : List ListedLocator) → (nonces : List ℕ) → Handled
-handle_message a packet (Refused why) listed nonces = declined why a
-handle_message a packet (Move m) listed nonces = handle_move a m (take m.count listed) nonces
-handle_message a packet (Reply e) listed nonces = handle_reply a e
-handle_message a packet (PeerCheck c) listed nonces = handle_check a c.id (opaque_of packet c)
+-- what a packet says: a Move with the locators that it lists, a Reply, or a Check with the packet's opaque bytes
+abbrev pub handle_message : Association → (packet : List ℕ) → Message → (nonces : List ℕ) → Handled
+handle_message a packet (Move m set) nonces = handle_move a m (listed_in set) nonces
+handle_message a packet (Reply e) nonces = handle_reply a e
+handle_message a packet (PeerCheck c) nonces = handle_check a c.id (opaque_of packet c)
 
--- the same, of the packet's reading
-abbrev pub handle_reading : Association → (packet : List ℕ) → Reading → (nonces : List ℕ) → Handled
-handle_reading a packet r nonces = handle_message a packet r.message r.listed nonces
+-- what is read of the packet: one of the refusals 3 to 6, or what it says
+abbrev pub handle_reading : Association → (packet : List ℕ) → Result Message Refusal → (nonces : List ℕ) → Handled
+handle_reading a packet (Err why) nonces = declined why a
+handle_reading a packet (Ok message) nonces = handle_message a packet message nonces
 
 -- refusals 0, 1 and 2, and then what is read of the packet: "A message is tried in" the order 0 to 11, a Check by 22
 -- and 7 after 5

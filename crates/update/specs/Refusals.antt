@@ -1,13 +1,11 @@
 -- The refusals of a message that are not judged below: 1, 2, 7, 9, 11 and 22, and what is Repeated. Refusal 0 is `association`'s, 3 to 6 are
 -- `packet`'s, 8 and 10 are `readdress`'s.
-use Rattle.std.specs.Prelude.{ℕ, ◌+◌, ◌*◌, Bool, false, not, ◌&&◌, ◌||◌, List, ltb, eqb, length}
-use Rattle.octets.specs.Records.{some}
+use Rattle.std.specs.Prelude.{ℕ, ◌+◌, ◌*◌, Bool, false, not, ◌&&◌, ◌||◌, List, ltb, eqb, length, None, Option, Some}
+use Rattle.std.specs.List.{list_any}
 use Rattle.locator.specs.Locators.{spi_type}
 use Rattle.locator.specs.declared.ListedLocator.{ListedLocator}
 use Rattle.slot.specs.Found.{slot_count}
 use Rattle.reply_form.specs.Replies.{check_size}
-use Rattle.association.specs.declared.PeerId.{PeerId}
-use Rattle.association.specs.declared.PeerId.TheVariants.{NoneSeen, Highest}
 use Rattle.association.specs.Form.{id_limit}
 use Rattle.association.specs.Start.{unusable_spi}
 
@@ -24,14 +22,14 @@ abbrev pub refusal2 : (authentic : Bool) → Bool
 refusal2 authentic = not authentic
 
 -- refusal 7: "Update ID below the highest seen"
-abbrev pub refusal7 : (id : ℕ) → PeerId → Bool
-refusal7 id NoneSeen = false
-refusal7 id (Highest h) = ltb id h
+abbrev pub refusal7 : (id : ℕ) → Option ℕ → Bool
+refusal7 id None = false
+refusal7 id (Some h) = ltb id h
 
 -- "equal: Repeated", and nothing after it is tried
-abbrev pub repeats : (id : ℕ) → PeerId → Bool
-repeats id NoneSeen = false
-repeats id (Highest h) = eqb id h
+abbrev pub repeats : (id : ℕ) → Option ℕ → Bool
+repeats id None = false
+repeats id (Some h) = eqb id h
 
 -- "a type 1 locator's SPI not NEW SPI"
 abbrev pub other_spi : (new : ℕ) → ListedLocator → Bool
@@ -39,7 +37,7 @@ other_spi new e = eqb e.kind spi_type && not (eqb e.spi new)
 
 -- refusal 9: "a Move's OLD SPI not the outbound SPI, NEW SPI 0, or a type 1 locator's SPI not NEW SPI"
 abbrev pub refusal9 : (outbound old new : ℕ) → List ListedLocator → Bool
-refusal9 outbound old new set = not (eqb old outbound) || (unusable_spi new || some (other_spi new) set)
+refusal9 outbound old new set = not (eqb old outbound) || (unusable_spi new || list_any (other_spi new) set)
 
 -- refusal 11: "next own ID + new checks over 2^32"
 abbrev pub refusal11 : (next checks : ℕ) → Bool

@@ -5,21 +5,21 @@
 use association::Association;
 use refusal::Refusal;
 
-// What became of a message: an accepted Move, Reply or Check, a Move or a Check that is Repeated (document 01's term: its Update ID equals the highest
-// seen), or a refusal.
-#[derive(Clone, Copy)]
-pub enum MessageOutcome {
+// What became of a message that is not refused: an accepted Move, Reply or Check, or a Move or a Check that is Repeated (document 01's term: its Update ID
+// equals the highest seen).
+#[derive(Clone, Copy, PartialEq, Eq)]
+pub enum Received {
     Moved,
     Replied,
     Responded,
     Repeated,
-    Declined(Refusal),
 }
 
-// The answer to a message: how many bytes of reply were written, how many new checks are among them, the KEYMAT Index, and the association after it.
+// The answer to a message: what became of it, or its refusal; how many bytes of reply were written, how many new checks are among them, the KEYMAT Index, and
+// the association after it.
 #[derive(Clone, Copy)]
 pub struct MessageAnswer {
-    pub outcome: MessageOutcome,
+    pub outcome: Result<Received, Refusal>,
     pub written: usize,
     pub checks: usize,
     pub keymat: u16,

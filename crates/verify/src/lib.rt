@@ -6,27 +6,15 @@ ghost use Rattle.slot.specs.Found.{on_locator};
 ghost use Rattle.readdress.specs.Echoes as rules;
 
 use packet::EchoResponse;
-use slot::{Holding, SLOT_COUNT, Slot, Status};
-
-// An echo response of 8 bytes that is the nonce.
-fn echoes(echo: EchoResponse, nonce: u64) -> bool
-    ensures { result ≡ rules.echoes echo nonce }
-{
-    match echo {
-        EchoResponse::Absent => false,
-        EchoResponse::Nonce(n) => n == nonce,
-        EchoResponse::OtherLength => false,
-    }
-}
+use slot::{SLOT_COUNT, Slot, Status};
 
 // It is the nonce of the check that the status carries.
 fn answers(echo: EchoResponse, status: Status) -> bool
     ensures { result ≡ rules.answers echo status }
 {
-    match status {
-        Status::Unverified(k) => echoes(echo, k.nonce),
-        Status::Active => false,
-        Status::Deprecated => false,
+    match (echo, status) {
+        (EchoResponse::Nonce(nonce), Status::Unverified(check)) => nonce == check.nonce,
+        _ => false,
     }
 }
 
@@ -34,43 +22,31 @@ fn answers(echo: EchoResponse, status: Status) -> bool
 fn verify_slot(slot: Slot, echo: EchoResponse) -> Slot
     ensures { result ≡ on_locator (rules.verify_locator echo) slot }
 {
-    let holding = slot.holding;
-    match holding {
-        Holding::Empty => slot,
-        Holding::Held(l) => {
-            let status = l.status;
-            if answers(echo, status) {
-                Slot {
-                    holding: Holding::Held(slot::with_status(l, Status::Active)),
-                }
-            } else {
-                slot
-            }
-        }
+    match slot.holding {
+        Some(l) if answers(echo, l.status) => Slot {
+            holding: Some(slot::with_status(l, Status::Active)),
+        },
+        _ => slot,
     }
 }
 
 // Step 1: the slots after the echo response.
-pub fn verify_all(slots: [Slot; SLOT_COUNT], echo: EchoResponse) -> [Slot; SLOT_COUNT]
-    ensures { result ≡ rules.verify_all echo slots }
+#[tactic(auto, unfolding(readdress::specs::Echoes::verify_all))]
+pub fn verify_all(slots: &mut [Slot; SLOT_COUNT], echo: EchoResponse)
+    ensures { slots.new ≡ rules.verify_all echo slots.old }
 {
-    let mut held = slots;
-    let mut i: usize = 0;
-    while i < SLOT_COUNT {
-        let slot = held[i];
-        held[i] = verify_slot(slot, echo);
-        i += 1;
+    for slot in slots.iter_mut() {
+        *slot = verify_slot(*slot, echo);
     }
-    held
 }
 
 // Refusal 8: the echo response matches no outstanding nonce.
-pub fn is_unmatched(slots: [Slot; SLOT_COUNT], echo: EchoResponse) -> bool
-    ensures { result ≡ rules.refusal8 echo slots }
+pub fn is_unmatched(slots: &[Slot; SLOT_COUNT], echo: EchoResponse) -> bool
+    ensures { result ≡ rules.refusal8 echo slots.now }
 {
     match echo {
         EchoResponse::Absent => false,
-        EchoResponse::Nonce(n) => !slots::is_outstanding(slots, n),
+        EchoResponse::Nonce(nonce) => !slots::is_outstanding(slots, nonce),
         EchoResponse::OtherLength => true,
     }
 }

@@ -1,11 +1,10 @@
 -- Stores of bytes one after another, as the functions make them. Assumes nothing.
-use Prim.Native.Nat.{ℕ, suc, ◌+◌, ◌/◌, ◌%◌, ◌≤◌}
+use Prim.Native.Nat.{ℕ, suc, ◌+◌, ◌≤◌}
 use mathlib.Core.Path.{◌≡◌, refl, sym, ap, ◌∙◌}
 use mathlib.Core.List.{List, [], ◌∷◌, append_assoc}
 use lib.ListN.{length, set, take, drop}
 use lib.Seq.{sets, sets-eq}
 use native.Mathlib.Omega.{arith}
-use Rattle.octets.specs.Written.{bytes_of}
 use Rattle.writer.specs.Writes.{written_at}
 use Rattle.writer.proofs.Writes.{written_within}
 
@@ -20,7 +19,7 @@ stores_sets at k (x ∷ bytes) buffer =
     let e : at + (k + 1) ≡ suc (at + k) = omega arith in
     stores_sets at (k + 1) bytes (set buffer (at + k) x) ∙ ap (λ (i : ℕ). sets (set buffer (at + k) x) i bytes) e
 
--- the bytes of a number, stored from a place on, where they fit: over the width
+-- bytes, stored from a place on, where they fit
 pub stored : (at x : ℕ) (rest bytes buffer : List ℕ) → x ∷ rest ≡ bytes → at + length bytes ≤ length buffer
     → stores at 1 rest (set buffer at x) ≡ written_at at bytes buffer
 stored at x rest bytes buffer e h =
@@ -32,17 +31,3 @@ stored at x rest bytes buffer e h =
     ∙ append_assoc (take at buffer) (x ∷ rest) (drop (at + suc (length rest)) buffer)
     ∙ sym (written_within at (x ∷ rest) buffer room)
     ∙ ap (λ (s : List ℕ). written_at at s buffer) e
-
--- the bytes of a number of each width, written out
-pub two_bytes : (n : ℕ) → n / 256 % 256 ∷ n % 256 ∷ [] ≡ bytes_of 2 n
-unfolding bytes_of
-two_bytes n = let one : n / 1 ≡ n = omega arith in rw one
-
-pub four_bytes : (n : ℕ) → n / 16777216 % 256 ∷ n / 65536 % 256 ∷ n / 256 % 256 ∷ n % 256 ∷ [] ≡ bytes_of 4 n
-unfolding bytes_of
-four_bytes n = let one : n / 1 ≡ n = omega arith in rw one
-
-pub eight_bytes : (n : ℕ) → n / 72057594037927936 % 256 ∷ n / 281474976710656 % 256 ∷ n / 1099511627776 % 256 ∷ n / 4294967296 % 256
-    ∷ n / 16777216 % 256 ∷ n / 65536 % 256 ∷ n / 256 % 256 ∷ n % 256 ∷ [] ≡ bytes_of 8 n
-unfolding bytes_of
-eight_bytes n = let one : n / 1 ≡ n = omega arith in rw one

@@ -6,6 +6,7 @@ use mathlib.Core.List.{List, [], ◌∷◌, ◌++◌, append_assoc, append-nil}
 use lib.Dec.{leb}
 use lib.ListN.{length, take, drop, take-append-drop, length-append, length-take, length-drop}
 use lib.Seq.{take_at, drop_at, drop-drop}
+use borrow.Rule.Slice.PartMut.{put_mid}
 use borrow.Author.Tests.{le-leb, lt-leb, leb-true}
 use native.Mathlib.Omega.{arith}
 use Rattle.octets.specs.Written.{joined}
@@ -16,6 +17,11 @@ pub written_within : (at : ℕ) (bytes buffer : List ℕ) → at + length bytes 
     → written_at at bytes buffer ≡ take at buffer ++ (bytes ++ drop (at + length bytes) buffer)
 unfolding written_at
 written_within at bytes buffer h = rw (le-leb _ _ h)
+
+-- the same, as a copy into the part leaves the buffer
+pub written_part : (at size : ℕ) (bytes buffer : List ℕ) → size ≡ length bytes → at + length bytes ≤ length buffer
+    → put_mid at size buffer bytes ≡ written_at at bytes buffer
+written_part at size bytes buffer e h = rw (e, written_within at bytes buffer h, drop-drop (length bytes) at buffer)
 
 -- bytes that do not fit are not written
 pub written_beyond : (at : ℕ) (bytes buffer : List ℕ) → length buffer < at + length bytes → buffer ≡ written_at at bytes buffer

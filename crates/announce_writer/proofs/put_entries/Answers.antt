@@ -1,27 +1,29 @@
 -- Each turn writes the next entry after those before it.
-use Rattle.std.proofs.Common.{◌<◌, length, arith}
+use Rattle.std.proofs.Common.{arith}
 use Rattle.announce_writer.proofs.Parts.{blank_entry, size_within, entries_next, place_next, entries_none, place_first}
 use Rattle.announce_writer.proofs.put_entries.Goals as goal
 
-pub loop-k-init : goal.loop-k-init
-loop-k-init c =
+pub loop-e-init : goal.loop-e-init
+loop-e-init c =
     let a = c.args in
-    record { within = omega arith; place = place_first a.at a.list; written = entries_none a.spi a.at a.list a.buffer.now }
+    record { place = place_first a.at a.list.now; written = entries_none a.spi a.at a.list.now a.buffer.now }
 
 pub put_entry-next-requires : goal.put_entry-next-requires
 put_entry-next-requires c =
-    let w = size_within c.args.list c.loop-k.k blank_entry (omega arith) c.args.count (omega arith) in
+    let l = c.loop-e.invariant in
+    let place = l.place in
+    let w = size_within c.args.list.now c.loop-e.e-index blank_entry c.loop-e-test.true in
     omega arith
 
-pub loop-k-preserved : goal.loop-k-preserved
-loop-k-preserved c =
+pub loop-e-preserved : goal.loop-e-preserved
+loop-e-preserved c =
     let a = c.args in
-    let k = c.loop-k.k in
-    let l : k < length a.list = omega arith in
-    let w = size_within a.list k blank_entry l a.count (omega arith) in
+    let es = a.list.now in
+    let k = c.loop-e.e-index in
+    let l = c.loop-e.invariant in
+    let put = c.put_entry-next.ensures in
+    let w = size_within es k blank_entry c.loop-e-test.true in
     record {
-      within = omega arith;
-      place = place_next a.list k blank_entry l a.at c.loop-k.next _ c.loop-k.invariant.place c.put_entry-next.ensures.value;
-      written = entries_next a.list k blank_entry l a.spi a.at c.loop-k.next a.buffer.now _ _ (omega arith) c.loop-k.invariant.place
-          c.loop-k.invariant.written c.put_entry-next.ensures.buffer_after;
+      place = place_next es k blank_entry c.loop-e-test.true a.at c.loop-e.next _ l.place put.value;
+      written = entries_next es k blank_entry c.loop-e-test.true a.spi a.at c.loop-e.next a.buffer.now _ _ (omega arith) l.place l.written put.buffer_after;
     }

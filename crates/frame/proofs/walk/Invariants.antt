@@ -3,8 +3,8 @@ use Rattle.std.proofs.Common.{◌-◌, length}
 use Rattle.frame.proofs.Turns.{Walking}
 use Rattle.frame.proofs.walk.Given as goal
 
-abbrev pub invariant-loop-refusal : goal.invariant-loop-refusal
-invariant-loop-refusal l = Walking l.packet l.seen l.last l.at
+abbrev pub invariant-loop-p : goal.invariant-loop-p
+invariant-loop-p l = Walking l.packet l.seen l.last l.at
 
-abbrev pub decreases-loop-refusal : goal.decreases-loop-refusal
-decreases-loop-refusal l = length l.packet - l.at
+abbrev pub decreases-loop-p : goal.decreases-loop-p
+decreases-loop-p l = length l.packet - l.at

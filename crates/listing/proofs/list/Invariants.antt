@@ -3,4 +3,4 @@ use Rattle.std.proofs.Common.{◌-◌, length}
 use Rattle.listing.proofs.list.Given as goal
 
 abbrev pub decreases-loop-p : goal.decreases-loop-p
-decreases-loop-p g l = length l.packet - l.cursor.at
+decreases-loop-p g l = length l.reader.packet.now - l.reader.cursor.at

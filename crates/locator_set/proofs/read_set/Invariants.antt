@@ -4,7 +4,7 @@ use Rattle.locator_set.proofs.Passes.{Passing}
 use Rattle.locator_set.proofs.read_set.Given as goal
 
 abbrev pub invariant-loop-at : goal.invariant-loop-at
-invariant-loop-at l = Passing l.s l.listed l.highs l.lows l.used l.count l.marked l.at
+invariant-loop-at l = Passing l.s l.listed l.used l.count l.marked l.at
 
 abbrev pub decreases-loop-at : goal.decreases-loop-at
 decreases-loop-at l = length l.s - l.at

@@ -1,10 +1,12 @@
--- The loop: the answer so far and the entries from i on say what all say.
-use Rattle.std.proofs.Common.{◌-◌}
-use Rattle.own_list.proofs.Turns.{Judging}
+-- The entries before the one whose turn it is are judged, and of their widths.
+use Rattle.std.proofs.Common.{◌≡◌, take}
+use Rattle.std.specs.List.{list_any}
+use Rattle.announcement.specs.Sized.{AllSized}
+use Rattle.announcement.specs.Entries.{ill_entry}
 use Rattle.own_list.proofs.any_ill.Given as goal
 
-abbrev pub invariant-loop-i : goal.invariant-loop-i
-invariant-loop-i l = Judging l.held l.count l.ill l.i
-
-abbrev pub decreases-loop-i : goal.decreases-loop-i
-decreases-loop-i l = l.count - l.i
+abbrev pub invariant-loop-entry : goal.invariant-loop-entry
+invariant-loop-entry l = record {
+  ill : l.ill ≡ list_any ill_entry (take l.entry-index l.list);
+  sized : AllSized (take l.entry-index l.list);
+}

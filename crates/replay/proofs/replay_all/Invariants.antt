@@ -1,5 +1,6 @@
--- The turns are counted. Assumes nothing.
+-- What is held lies in the buffer. Assumes nothing.
+use Rattle.std.proofs.Common.{◌≤◌, length}
 use Rattle.replay.proofs.replay_all.Given as goal
 
-abbrev pub decreases-loop-turns : goal.decreases-loop-turns
-decreases-loop-turns g l = l.turns
+abbrev pub invariant-loop : goal.invariant-loop
+invariant-loop g l = l.filled ≤ length l.held

@@ -7,6 +7,6 @@ pub returns : goal.returns
 returns c =
     let a = c.args in
     let size = c.taken_by.ensures in
-    let n = c.taken_by.result - 4 - length a.opaque.now - 0 in
-    let place = a.at + 4 + length a.opaque.now in
-    echo_response_written a.opaque.now a.at n place a.buffer.now _ _ _ c.requires.opaque_len_bound c.requires.opaque_in_bounds (omega arith) refl c.put_head.ensures c.put.ensures.0 c.put-2.ensures.0
+    let n = c.taken_by.result - 4 - length a.check.now.opaque.now - 0 in
+    let place = a.at + 4 + length a.check.now.opaque.now in
+    echo_response_written a.check.now.opaque.now a.at n place a.buffer.now _ _ _ a.check.now.few c.requires (omega arith) refl c.put_head.ensures c.put.ensures.0 c.put-2.ensures.0

@@ -9,7 +9,7 @@ returns c =
     let a = c.args in
     let size = c.taken_by.ensures in
     record {
-      value = omega (arith, response_length a.id a.opaque.now);
+      value = omega (arith, response_length a.check.now.id a.check.now.opaque.now);
       buffer_after =
-          response_written a.id a.opaque.now a.buffer.now _ _ c.requires.opaque_len_bound c.requires.reply_room_in_bounds c.write_ack.ensures.buffer_after c.put_echo_response.ensures;
+          response_written a.check.now.id a.check.now.opaque.now a.buffer.now _ _ a.check.now.few c.requires c.write_ack.ensures.buffer_after c.put_echo_response.ensures;
     }

@@ -1,12 +1,8 @@
--- The slots before i are retired, and the others are as they were.
-use Rattle.std.proofs.Common.{◌-◌, ◌≤◌, take}
-use Rattle.readdress.specs.Steps.{retire}
+-- The slots before the one whose turn it is are retired.
+use Rattle.std.proofs.Common.{◌≡◌, ◌++◌, map, take, drop}
 use Rattle.slot.specs.Found.{on_locator}
-use Rattle.slots.proofs.Loops.{Mapped}
+use Rattle.readdress.specs.Steps.{retire}
 use Rattle.settle.proofs.retire_all.Given as goal
 
-abbrev pub invariant-loop-i : goal.invariant-loop-i
-invariant-loop-i l = (l.i ≤ 8) × Mapped (on_locator (retire (take l.count l.listed))) l.i l.initial.held l.held
-
-abbrev pub decreases-loop-i : goal.decreases-loop-i
-decreases-loop-i l = 8 - l.i
+abbrev pub invariant-loop-slot : goal.invariant-loop-slot
+invariant-loop-slot l = map (on_locator (retire l.listed)) l.fn.slots ≡ take l.slot-index l.slots ++ map (on_locator (retire l.listed)) (drop l.slot-index l.slots)

@@ -1,11 +1,7 @@
--- The slots before i have expired, and the others are as they were.
-use Rattle.std.proofs.Common.{◌-◌, ◌≤◌}
+-- The slots before the one whose turn it is have expired.
+use Rattle.std.proofs.Common.{◌≡◌, ◌++◌, map, take, drop}
 use Rattle.slot.specs.Expiry.{expire_slot}
-use Rattle.slots.proofs.Loops.{Mapped}
 use Rattle.slots.proofs.expire_all.Given as goal
 
-abbrev pub invariant-loop-i : goal.invariant-loop-i
-invariant-loop-i l = (l.i ≤ 8) × Mapped (expire_slot l.time) l.i l.initial.held l.held
-
-abbrev pub decreases-loop-i : goal.decreases-loop-i
-decreases-loop-i l = 8 - l.i
+abbrev pub invariant-loop-slot : goal.invariant-loop-slot
+invariant-loop-slot l = map (expire_slot l.time) l.fn.slots ≡ take l.slot-index l.slots ++ map (expire_slot l.time) (drop l.slot-index l.slots)

@@ -1,12 +1,8 @@
--- The invariant of `verify_all`'s loop: the slots before `i` are done, and the others are as they were.
-use Rattle.std.proofs.Common.{◌≤◌, ◌-◌}
+-- The slots before the one whose turn it is are verified.
+use Rattle.std.proofs.Common.{◌≡◌, ◌++◌, map, take, drop}
 use Rattle.slot.specs.Found.{on_locator}
-use Rattle.slots.proofs.Loops.{Mapped}
 use Rattle.readdress.specs.Echoes.{verify_locator}
 use Rattle.verify.proofs.verify_all.Given as goal
 
-abbrev pub invariant-loop-i : goal.invariant-loop-i
-invariant-loop-i l = (l.i ≤ 8) × Mapped (on_locator (verify_locator l.echo)) l.i l.initial.held l.held
-
-abbrev pub decreases-loop-i : goal.decreases-loop-i
-decreases-loop-i l = 8 - l.i
+abbrev pub invariant-loop-slot : goal.invariant-loop-slot
+invariant-loop-slot l = map (on_locator (verify_locator l.echo)) l.fn.slots ≡ take l.slot-index l.slots ++ map (on_locator (verify_locator l.echo)) (drop l.slot-index l.slots)

@@ -5,4 +5,4 @@ use Rattle.replay.proofs.state.put_head.Goals as goal
 
 pub returns : goal.returns
 unfolding head_text
-returns c = after c.put_numbers-at.ensures (after c.put_peer-at.ensures (after c.put_field-at.ensures (after c.put_preference-at.ensures c.put_word.ensures)))
+returns c = after c.put_numbers.ensures (after c.put_peer.ensures (after c.put_field.ensures (after c.put_preference.ensures c.put_word.ensures)))

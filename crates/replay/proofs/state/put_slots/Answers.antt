@@ -2,7 +2,7 @@
 use Rattle.std.proofs.Common.{ap, arith, take_all}
 use Rattle.lines.proofs.Joined.{none, after, same}
 use Rattle.lines.specs.State.{slots_text}
-use Rattle.lines.proofs.Cases.{slots_next}
+use Rattle.lines.proofs.Slots.{slots_next}
 use Rattle.replay.proofs.state.put_slots.Goals as goal
 
 pub loop-n-init : goal.loop-n-init
@@ -11,8 +11,8 @@ loop-n-init c = none _ _
 
 pub loop-n-preserved : goal.loop-n-preserved
 unfolding slots_text
-loop-n-preserved c = same (slots_next c.loop-n.n c.args.slots _ (omega arith)) (after c.loop-n.invariant c.put_slot-place.ensures)
+loop-n-preserved c = same (slots_next c.loop-n.n c.args.slots.now _ (omega arith)) (after c.loop-n.invariant c.put_slot.ensures)
 
 pub returns : goal.returns
 unfolding slots_text
-returns c = same (ap (slots_text 0) (take_all c.loop-n.n c.args.slots (omega arith))) c.loop-n.invariant
+returns c = same (ap (slots_text 0) (take_all c.loop-n.n c.args.slots.now (omega arith))) c.loop-n.invariant

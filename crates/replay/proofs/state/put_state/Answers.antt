@@ -5,4 +5,4 @@ use Rattle.replay.proofs.state.put_state.Goals as goal
 
 pub returns : goal.returns
 unfolding state_text
-returns c = after c.put_head-at.ensures c.put_slots.ensures
+returns c = after c.put_head.ensures c.put_slots.ensures
