@@ -13,7 +13,7 @@ use Rattle.parameter.specs.Written.{parameter_bytes}
 use Rattle.frame.specs.Parameters.{falls}
 use Rattle.frame.specs.Survey.{occurs}
 use Rattle.locator.specs.Locators.{ill_form}
-use Rattle.locator_set.specs.Sets.{twice, marks, blank}
+use Rattle.locator_set.specs.Sets.{twice, marks, blank, listed_in}
 use Rattle.slot.specs.Clashes.{clash}
 use Rattle.packet.specs.declared.EchoResponse.TheVariants.{Absent}
 use Rattle.locator_set.specs.declared.LocatorSet.{LocatorSet}
@@ -114,6 +114,10 @@ fields = record { keymat = 0x203; old = 0x1001; new = 0x1002; id = 0; echo = Abs
 -- and the set
 abbrev read : LocatorSet
 read = record { listed = map (as_listed 0x1002) (take 3 entries) ++ replicate 5 blank; count = 3 }
+
+-- the set holds three, and none of the blanks after them
+listed : listed_in read ≡ map (as_listed 0x1002) (take 3 entries)
+listed = refl
 
 -- its three parameters are what we write for it
 three_bytes : three_of packet ≡ written
