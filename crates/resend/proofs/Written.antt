@@ -1,15 +1,17 @@
 -- The checks that are sent again are written one after another. Assumes nothing.
 use Prim.Native.Nat.{ℕ, ◌+◌, ◌*◌, ◌≤◌, ◌<◌}
-use mathlib.Core.Path.{◌≡◌, ap, ◌∙◌}
+use mathlib.Core.Path.{◌≡◌, refl, sym, ap, ◌∙◌}
 use mathlib.Core.Bool.{Bool, true, false, cond}
-use mathlib.Core.List.{List, [], ◌∷◌, ◌++◌, map, append-nil}
-use lib.ListN.{length, get_or, set, take, drop, length-append}
+use mathlib.Core.List.{List, [], ◌∷◌, ◌++◌, map, append_assoc, append-nil}
+use lib.ListN.{length, get_or, set, take, drop, length-append, drop_of_length-le}
+use lib.Seq.{drop-cons}
+use native.Mathlib.Numerals.{add-one}
 use native.Mathlib.Omega.{arith}
 use Rattle.check_times.specs.Times.{is_due}
 use Rattle.parameter.specs.Types.{seq}
 use Rattle.writer.specs.Writes.{written_at}
-use Rattle.writer.proofs.Writes.{parts_written}
-use Rattle.reply_form.specs.Replies.{resend_size, esp_info_bytes, seq_bytes, echo_request_bytes, resend_bytes}
+use Rattle.writer.proofs.Writes.{written_none, written_more, written_first, parts_written}
+use Rattle.reply_form.specs.Replies.{resend_size, esp_info_bytes, seq_bytes, echo_request_bytes, resend_bytes, overwritten}
 use Rattle.reply_form.proofs.Sizes.{number_length, esp_info_length_lem, resend_length}
 use Rattle.slot.specs.declared.Check.{Check}
 use Rattle.slot.specs.declared.Status.{Status}
@@ -33,6 +35,11 @@ resend_written inbound id nonce at b b1 b2 b3 h p1 p2 p3 =
     (rw (append-nil (echo_request_bytes nonce)))
     (omega arith)
     (p3 ∙ rw (p2, p1, esp_info_length_lem 0 inbound inbound, number_length seq id))
+
+-- ---- one slot
+-- what is owed for a slot: the size, and the buffer after it
+abbrev pub Owed : (inbound time at : ℕ) → Slot → (b : List ℕ) → (size : ℕ) → (after : List ℕ) → Type 0
+Owed inbound time at s b size after = (size ≡ length (slot_bytes inbound time s)) × (after ≡ written_at at (slot_bytes inbound time s) b)
 
 -- ---- all slots
 module _ (inbound time : ℕ) where
@@ -74,3 +81,55 @@ module _ (inbound time : ℕ) where
         (ap (flat_map (slot_bytes inbound time)) (take_more xs i d h)
         ∙ flat_map-append (slot_bytes inbound time) (take i xs) (get_or xs i d ∷ [])
         ∙ ap (λ (l : List ℕ). resent_bytes inbound time (take i xs) ++ l) (append-nil (slot_bytes inbound time (get_or xs i d))))
+
+  -- ---- the same by the slots that are left: laws that no code cites
+  resent_cons : (s : Slot) (ss : List Slot) → resent_bytes inbound time (s ∷ ss) ≡ slot_bytes inbound time s ++ resent_bytes inbound time ss
+  unfolding resent_bytes
+  resent_cons s ss = refl
+
+  resent_nil : resent_bytes inbound time [] ≡ []
+  unfolding resent_bytes
+  resent_nil = refl
+
+  -- after so many slots: what is written, what it comes to with the slots that are left, and the place after it
+  pub record Sent (n : ℕ) (xs : List Slot) (at : ℕ) (b b1 : List ℕ) : Type 0 where
+    pub done : List ℕ
+    pub whole : done ++ resent_bytes inbound time (drop n xs) ≡ resent_bytes inbound time xs
+    pub size : at ≡ length done
+    pub few : at ≤ n * resend_size
+    pub buffer : b1 ≡ written_at 0 done b
+
+  pub sent_none : (xs : List Slot) (b : List ℕ) → Sent 0 xs 0 b b
+  sent_none xs b = record { done = []; whole = refl; size = refl; few = omega arith; buffer = written_none 0 b }
+
+  pub sent_more : {n : ℕ} {xs : List Slot} {at : ℕ} {b b1 : List ℕ} (s d : Slot) (next size : ℕ) (b2 : List ℕ) → Sent n xs at b b1 → n < length xs →
+      (n + 1) * resend_size ≤ length b → s ≡ get_or xs n d → Owed inbound time at s b1 size b2 → next ≡ at + size → Sent (n + 1) xs next b b2
+  sent_more {n} {xs} {at} {b} {b1} s d next size b2 t h room e owed f =
+      let here = slot_bytes inbound time s in
+      let rest = resent_bytes inbound time (drop (n + 1) xs) in
+      let most = size_most s in
+      let sized = owed.0 in
+      let reached = t.size in
+      let few = t.few in
+      record {
+        done = t.done ++ here;
+        whole =
+            append_assoc t.done here rest
+            ∙ ap (λ (l : List ℕ). t.done ++ l)
+            (ap (λ (x : Slot). slot_bytes inbound time x ++ rest) e ∙ sym (rw (drop-cons xs n d h, resent_cons, ← add-one n)))
+            ∙ t.whole;
+        size = omega (arith, length-append t.done here);
+        few = omega arith;
+        buffer = written_more 0 at t.done here b b1 b2 (omega arith) (omega arith) t.buffer owed.1;
+      }
+
+  pub sent_all : {n : ℕ} {xs : List Slot} {at : ℕ} {b b1 : List ℕ} → Sent n xs at b b1 → length xs ≤ n → n * resend_size ≤ length b →
+      (at ≡ length (resent_bytes inbound time xs)) × (b1 ≡ overwritten (resent_bytes inbound time xs) b)
+  sent_all {n} {xs} {at} {b} {b1} t h room =
+      let all : t.done ≡ resent_bytes inbound time xs =
+      sym (append-nil t.done) ∙ ap (λ (l : List ℕ). t.done ++ l) (sym (rw (drop_of_length-le xs {i = n} h, resent_nil))) ∙ t.whole in
+      let size = t.size in
+      let few = t.few in (
+        t.size ∙ ap length all,
+        t.buffer ∙ written_first t.done b (omega arith) ∙ ap (λ (l : List ℕ). overwritten l b) all,
+      )
