@@ -2,3 +2,4 @@ pub mod Loops
 pub mod Each
 pub mod Statuses
 pub mod Kept
+pub mod Past
