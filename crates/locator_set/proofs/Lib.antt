@@ -1,3 +1,4 @@
 pub mod Earlier
 pub mod Passes
 pub mod Listing
+pub mod Addresses
