@@ -18,7 +18,8 @@ use Rattle.slot.specs.declared.Status.{Status}
 use Rattle.slot.specs.declared.Status.TheVariants.{Unverified, Active, Deprecated}
 use Rattle.slot.specs.declared.Locator.{Locator}
 use Rattle.slot.specs.declared.Slot.{Slot}
-use Rattle.slot.specs.Checks.{resend_slot}
+use Rattle.slot.specs.Found.{with_status, on_held}
+use Rattle.slot.specs.Checks.{resent, resend_status, resend_locator, resend_slot}
 use Rattle.resend.specs.Resends.{status_bytes, held_bytes, slot_bytes, resent_bytes}
 use Rattle.std.specs.List.{flat_map}
 use Rattle.std.proofs.lemmas.List.{take_more}
@@ -82,7 +83,27 @@ module _ (inbound time : ℕ) where
         ∙ flat_map-append (slot_bytes inbound time) (take i xs) (get_or xs i d ∷ [])
         ∙ ap (λ (l : List ℕ). resent_bytes inbound time (take i xs) ++ l) (append-nil (slot_bytes inbound time (get_or xs i d))))
 
-  -- ---- the same by the slots that are left: laws that no code cites
+  -- ---- a slot for which nothing is written is as it was. No code cites this law and those below
+  quiet : (s : Slot) → length (slot_bytes inbound time s) ≡ 0 → s ≡ resend_slot time s
+  quiet s p = λ i. record { holding = held s.holding p i }
+    where
+      check : (k : Check) (b : Bool) → length (cond b (resend_bytes inbound k.id k.nonce) []) ≡ 0 → Unverified k ≡ cond b (Unverified (resent time k)) (Unverified k)
+      check k true q = absurd (omega (arith, resend_length inbound k.id k.nonce))
+      check k false q = refl
+
+      status : (t : Status) → length (status_bytes inbound time t) ≡ 0 → t ≡ resend_status time t
+      status (Unverified k) q = check k (is_due k.issued k.resends time) q
+      status Active q = refl
+      status Deprecated q = refl
+
+      held : (h : Option Locator) → length (held_bytes inbound time h) ≡ 0 → h ≡ on_held (resend_locator time) h
+      held None q = refl
+      held (Some l) q = λ i. Some (with_status l (status l.status q i))
+
+  pub quiet_slot : (s : Slot) (size : ℕ) → size ≡ length (slot_bytes inbound time s) → size ≡ 0 → s ≡ resend_slot time s
+  quiet_slot s size p e = quiet s (sym p ∙ e)
+
+  -- ---- all slots by those that are left
   resent_cons : (s : Slot) (ss : List Slot) → resent_bytes inbound time (s ∷ ss) ≡ slot_bytes inbound time s ++ resent_bytes inbound time ss
   unfolding resent_bytes
   resent_cons s ss = refl
