@@ -2,13 +2,14 @@
 use Prim.Native.Nat.{ℕ, suc, ◌+◌, ◌*◌, ◌/◌, ◌%◌, ◌≤◌, ◌<◌}
 use mathlib.Core.Path.{◌≡◌, refl, sym, ap, ◌∙◌}
 use mathlib.Core.List.{List, [], ◌∷◌, ◌++◌}
-use lib.ListN.{length, take, drop, get_or, take-append-drop, length-append}
+use lib.ListN.{length, take, drop, get_or, set, take-append-drop, length-append}
 use lib.Seq.{take-suc, take_all, length-take-le}
 use borrow.Author.Tests.{le-leb, lt-leb}
 use native.Mathlib.Numerals.{add-one}
 use native.Mathlib.Omega.{arith}
 use Rattle.writer.specs.Writes.{written_at}
 use Rattle.writer.proofs.Writes.{written_beyond, written_length, written_none, written_more}
+use Rattle.writer.proofs.Stores.{stored}
 use Rattle.text.specs.Texts.{glyph_of, hex_of, end_of}
 
 -- a text that fits
@@ -66,6 +67,17 @@ hex_next at i end next bytes buffer once twice h room e p q n =
       n ∙ hex_end end byte once (omega arith) ∙ omega arith,
     )
 
+-- the same, as its two digits are stored
+pub hex_stored : (at i : ℕ) (digits bytes buffer once : List ℕ) → i < length bytes → at + 2 * length bytes ≤ length buffer
+    → once ≡ written_at at (hex_of (take i bytes)) buffer → digits ≡ hex_of (get_or bytes i 0 ∷ [])
+    → set (set once (at + 2 * i) (get_or digits 0 0)) (at + 2 * i + 1) (get_or digits 1 0) ≡ written_at at (hex_of (take (i + 1) bytes)) buffer
+unfolding hex_of
+hex_stored at i digits bytes buffer once h room p d =
+    let b : ℕ = get_or bytes i 0 in
+    let kept : length once ≡ length buffer = ap length p ∙ written_length at (hex_of (take i bytes)) buffer in
+    let pair = stored (at + 2 * i) (glyph_of (b / 16)) (glyph_of (b % 16) ∷ []) (hex_of (b ∷ [])) once refl (omega arith) in
+    rw d (hex_next at i (at + 2 * i) _ bytes buffer once _ h room refl p pair refl).0
+
 -- ---- a loop that writes what the bytes of a text are spelled as, one byte after another
 pub record Spelling (spell : List ℕ → List ℕ) : Type 0 where
   pub none : spell [] ≡ []
@@ -105,4 +117,4 @@ module _ (spell : List ℕ → List ℕ) (p : Spelling spell) (at : ℕ) (text b
   ended i out h e = rw (take_all i text h) at e
 
 -- what the loop needs
-pub ruleset hex_laws = (hex_none, hex_next, hex_all, hex_beyond, hex_stays, hex_end)
+pub ruleset hex_laws = (hex_none, hex_stored, hex_all, hex_beyond, hex_stays, hex_end)
