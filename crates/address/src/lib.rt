@@ -1,11 +1,14 @@
 // Addresses, and which of them are legal. Depends on octets.
 #![tactic(auto)]
 
-ghost use Rattle.std.specs.Prelude.{◌≡◌};
+ghost use Rattle.std.specs.Prelude.{◌≡◌, ◌==◌};
+ghost use Rattle.std.proofs.Common.{rules};
+ghost use Rattle.std.specs.Ordering.{on, eq_of_both};
+ghost use Rattle.std.specs.Cmp.Rules.{comparing};
 ghost use Rattle.address.specs.Rules.{address_at, same_address, legal};
 
 // An address's 16 bytes, as two big-endian numbers of eight bytes.
-#[derive(Clone, Copy, PartialEq, Eq)]
+#[derive(Clone, Copy)]
 pub struct Address {
     pub high: u64,
     pub low: u64,
@@ -36,11 +39,28 @@ pub fn address_at(s: &[u8], at: usize) -> Address
     }
 }
 
-// Two addresses are the same 16 bytes. Code says `a == b`; the function stays for the pages and the edits that name it.
+// Two addresses are the same 16 bytes.
 pub fn same(a: Address, b: Address) -> bool
     ensures { result ≡ same_address a b }
 {
-    a == b
+    a.high == b.high && a.low == b.low
+}
+
+// `a == b` asks `same`, and so do the crates above.
+impl PartialEq for Address {
+    ghost use Rattle.address.specs.declared.Address.{Address};
+
+    ghost eq = { eq_of_both (on (λ (a : Address). a.high) ◌==◌) (on (λ (a : Address). a.low) ◌==◌) };
+
+    ghost laws = { Prim.search (comparing, rules) };
+
+    fn eq(&self, other: &Address) -> bool {
+        same(*self, *other)
+    }
+}
+
+impl Eq for Address {
+    ghost laws = { Prim.search (comparing, rules) };
 }
 
 // An address that may be announced. A high half other than 0 decides alone; among the others an IPv4 address before 224.0.0.0 is found first.
