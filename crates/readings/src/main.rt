@@ -92,7 +92,9 @@ fn read_edited(packet: &mut [u8], edit: Edit) -> u64 {
 }
 
 // The packets of one base packet's edits, with which the bytes begin, as one number, and the bytes after those edits.
-fn fold_edits<'e>(base: &mut [u8], index: usize, edits: &'e [u8]) -> (u64, &'e [u8]) {
+fn fold_edits<'e>(base: &mut [u8], index: usize, edits: &'e [u8]) -> (u64, &'e [u8])
+    ensures { length result.1.now ≤ length edits.now }
+{
     let mut number = 0;
     let mut rest = edits;
     while let Some((bytes, after)) = rest.split_first_chunk::<EDIT_SIZE>() {
@@ -120,7 +122,9 @@ fn print_bases<'e>(
     s: &mut [u8],
     count: usize,
     edits: &'e [u8],
-) -> io::Result<&'e [u8]> {
+) -> io::Result<&'e [u8]>
+    ensures { IfOk result (λ rest. length rest.now ≤ length edits.now) }
+{
     let mut rest = edits;
     let mut at = 1;
     for index in 0..count {
