@@ -1,6 +1,7 @@
-// Lists the parameters of packets by a `reader::ParameterReader`: a line for each parameter with its type, its length L and where its L bytes start,
-// and a line for how the reader ended. Then, as a log would have it, a line for each of some packets and nonces with the part of the packet that
-// `echo::echo_part` hands back. The file `stdout` was written from document 01, and the check compares the two.
+// Lists the parameters of packets by a `reader::ParameterReader`, and of those that are cut short by `reader::next_parameter`, as a caller may that keeps no
+// reader: a line for each parameter with its type, its length L and where its L bytes start, and a line for how the reader ended. Then, as a log would have
+// it, a line for each of some packets and nonces with the part of the packet that `echo::echo_part` hands back. The file `stdout` was written from
+// document 01, and the check compares the two.
 // Depends on reader, echo and the crates of their types, and on writer to build packets.
 #![tactic(auto)]
 
@@ -61,10 +62,24 @@ fn list(rt: &impl Print, packet: &[u8]) -> io::Result<()> {
     }
 }
 
-// Lists the first so many bytes of a packet.
+// The same by a place alone, with no reader.
+#[tactic(auto, using(reader::proofs::Places::less_left))]
+fn list_by_place(rt: &impl Print, packet: &[u8]) -> io::Result<()> {
+    let mut cursor = reader::start_cursor();
+    loop {
+        match reader::next_parameter(packet, &mut cursor) {
+            Ok(Some(p)) => print_parameter(rt, p)?,
+            Ok(None) => return println!(rt; "end"),
+            Err(why) => return print_refusal(rt, why),
+        }
+    }
+}
+
+// Lists the first so many bytes of a packet: the whole packet by a reader, and else by a place alone.
 fn list_first(rt: &impl Print, packet: &[u8], size: usize) -> io::Result<()> {
     match packet.get(..size) {
-        Some(first) => list(rt, first),
+        Some(whole) if size == packet.len() => list(rt, whole),
+        Some(first) => list_by_place(rt, first),
         None => Ok(()),
     }
 }
