@@ -7,7 +7,7 @@
 //         UPDATE(ACK, ECHO_RESPONSE)                  -->
 //
 // Before the answer the peer host may not send payload to the new address: it has no credit. After it, it may. HMAC and signature stay with the host. Depends
-// on announce, message, payload, association and the crates of their types, and on writer to build packets.
+// on announce, message, payload, association and the crates of their types, and on writer and text to build packets and print them.
 #![tactic(auto)]
 
 use address::Address;
@@ -36,6 +36,9 @@ struct Side {
     association: Association,
 }
 
+// The bytes of the longest packet in hex.
+const LINE_ROOM: usize = 848;
+
 // A packet: the first `size` of the bytes.
 #[derive(Clone, Copy)]
 struct Packet {
@@ -43,12 +46,12 @@ struct Packet {
     size: usize,
 }
 
-// Prints who sends what: the packet, two hex digits for each byte.
+// Prints who sends what: the packet, two hex digits for each byte, in one write.
 fn say_sent(rt: &impl Print, who: Side, what: &str, packet: &Packet) -> io::Result<()> {
     print!(rt; "{}{what}\n    ", who.name)?;
-    for byte in sent(packet) {
-        print!(rt; "{byte:02x}")?;
-    }
+    let mut line = [0u8; LINE_ROOM];
+    let end = text::put_hex(&mut line, 0, sent(packet));
+    rt.write_all(line.get(..end).unwrap_or_default())?;
     println!(rt; "")
 }
 
