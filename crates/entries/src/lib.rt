@@ -85,13 +85,30 @@ fn entry_at(s: &[u8], found: Record, k: usize) -> Option<OwnLocator>
     })
 }
 
-// Every entry of the list is of its widths, also those past the eighth. It is a `for`: with `all` over the range the proof did not close.
-#[tactic(auto, using(crate::proofs::Lists::entries_none, crate::proofs::Lists::entries_more, crate::proofs::Lists::entries_fail))]
+// Entry k is there, and of its widths. It is asked of every entry of a list, so it builds none.
+#[tactic(auto, unfolding(crate::specs::Entries::is_entry))]
+fn is_entry(s: &[u8], found: Record, k: usize) -> bool
+    ensures { result ≡ is_entry s.now found k }
+{
+    if entry_count(found) <= k {
+        return false;
+    }
+    let numbers = found.numbers;
+    let place = 2 + 4 * k;
+    u8::try_from(number(s, numbers, place)).is_ok()
+        && u8::try_from(number(s, numbers, place + 1)).is_ok()
+        && narrow(number(s, numbers, place + 2)).is_some()
+        && mark(number(s, numbers, place + 3)).is_some()
+}
+
+// Every entry of the list is of its widths, also those past the eighth. The last is asked first, as in the definition, so a list that ends with a bad entry
+// is refused at once. It is a `for`: with `all` over the range the proof did not close.
+#[tactic(auto, using(crate::proofs::Lists::entries_none, crate::proofs::Lists::entries_less, crate::proofs::Lists::entries_fail))]
 pub fn are_entries(s: &[u8], found: Record) -> bool
     ensures { result ≡ are_entries s.now found (entry_count found) }
 {
-    for k in 0..entry_count(found) {
-        if entry_at(s, found, k).is_none() {
+    for k in (0..entry_count(found)).rev() {
+        if !is_entry(s, found, k) {
             return false;
         }
     }
