@@ -2,4 +2,3 @@ pub mod Loops
 pub mod Each
 pub mod Statuses
 pub mod Kept
-pub mod Past

@@ -6,6 +6,7 @@ use Rattle.slot.specs.declared.Slot.{Slot}
 use Rattle.slot.specs.Found.{empty_slot, slot_of}
 use Rattle.slot.specs.Clashes.{clash}
 use Rattle.slots.specs.Rules.{clashing, bad_checks, expire_all, resend_all, is_outstanding}
+use Rattle.slots.specs.Past.{past}
 
 -- a slot that holds 2001:db8::n until 100 + n
 abbrev held : (n : ℕ) → Status → Slot
@@ -74,6 +75,10 @@ given_up_lem = refl
 resends : resend_all 100 (eight (held 1 (issued 7 98 0)) (held 2 (issued 8 95 1)) (held 3 (issued 9 100 0)))
     ≡ eight (held 1 (issued 7 98 2)) (held 2 (issued 8 95 3)) (held 3 (issued 9 100 0))
 resends = refl
+
+-- before its expiry, 103, at it and past it; an empty slot is never
+pasts : (map (λ (time : ℕ). past time (held 3 Active)) (102 ∷ 103 ∷ 104 ∷ []) ≡ false ∷ true ∷ true ∷ []) × (past 104 empty_slot ≡ false)
+pasts = (refl, refl)
 
 -- nonces 7 and 9 are outstanding; no other is, and not the Update ID of their checks
 outstanding : (map (is_outstanding (eight (held 1 (waiting 7)) (held 2 Active) (held 3 (waiting 9)))) (7 ∷ 9 ∷ 8 ∷ 3 ∷ 0 ∷ [])

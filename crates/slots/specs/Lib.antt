@@ -1,2 +1,3 @@
 pub mod Rules
+pub mod Past
 pub mod Examples

@@ -6,6 +6,7 @@ ghost use Rattle.std.specs.Prelude.{◌||◌, ◌≡◌};
 ghost use Rattle.std.specs.List.{list_any};
 ghost use Rattle.slot.specs.Clashes.{clash};
 ghost use Rattle.slots.specs.Rules.{clashing, bad_checks, expire_all, is_outstanding};
+ghost use Rattle.slots.specs.Past.{past};
 
 use slot::{SLOT_COUNT, Slot};
 
@@ -40,12 +41,24 @@ pub fn any_bad(slots: &[Slot; SLOT_COUNT], time: u64) -> bool
     any_clash(slots) || any_bad_check(slots, time)
 }
 
-// The slots at a time: locators that are over are DEPRECATED.
+// The slot holds a locator that is over.
+fn is_past(slot: &Slot, time: u64) -> bool
+    ensures { result ≡ past time slot.now }
+{
+    match slot.holding {
+        Some(l) => slot::is_over(l, time),
+        None => false,
+    }
+}
+
+// The slots at a time: locators that are over are DEPRECATED. The other slots are not written.
 pub fn expire_all(slots: &mut [Slot; SLOT_COUNT], time: u64)
     ensures { slots.new ≡ expire_all time slots.old }
 {
     for slot in slots.iter_mut() {
-        *slot = slot::expire(*slot, time);
+        if is_past(slot, time) {
+            *slot = slot::expire(*slot, time);
+        }
     }
 }
 
