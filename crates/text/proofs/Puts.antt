@@ -116,5 +116,37 @@ module _ (spell : List ℕ → List ℕ) (p : Spelling spell) (at : ℕ) (text b
   pub ended : (i : ℕ) (out : List ℕ) → length text ≤ i → out ≡ written_at at (spell (take i text)) buffer → out ≡ written_at at (spell text) buffer
   ended i out h e = rw (take_all i text h) at e
 
--- what the loop needs
+-- ---- bytes as they are, one after another
+pub plain_none : (at : ℕ) (buffer : List ℕ) → buffer ≡ written_at at [] buffer
+plain_none at buffer = written_none at buffer
+
+pub plain_all : (i : ℕ) (text : List ℕ) → length text ≤ i → take i text ≡ text
+plain_all i text h = take_all i text h
+
+module _ (at : ℕ) (text buffer : List ℕ) where
+  -- one byte more, after those before it
+  pub plain_stored : (i : ℕ) (once : List ℕ) → i < length text → at + length text ≤ length buffer → once ≡ written_at at (take i text) buffer
+      → set once (at + i) (get_or text i 0) ≡ written_at at (take (i + 1) text) buffer
+  plain_stored i once h room p =
+      let x : ℕ = get_or text i 0 in
+      let few : i ≤ length text = omega arith in
+      let kept : length once ≡ length buffer = ap length p ∙ written_length at (take i text) buffer in
+      onward (λ (t : List ℕ). t) plain at text buffer i (at + i) once _ h (omega (arith, length-take-le i text few)) room p
+      (stored (at + i) x [] (x ∷ []) once refl (omega arith))
+
+  -- where they do not all fit
+  pub plain_beyond : length buffer < at + length text → written_at at text buffer ≡ buffer
+  plain_beyond h = sym (written_beyond at text buffer h)
+
+  pub plain_stays : length buffer < at + length text → end_of at text buffer ≡ at
+  unfolding end_of
+  plain_stays h = rw (lt-leb _ _ h)
+
+  -- where they do
+  pub plain_end : at + length text ≤ length buffer → end_of at text buffer ≡ at + length text
+  plain_end h = sym (end_within at text buffer h)
+
+-- what the loops need
 pub ruleset hex_laws = (hex_none, hex_stored, hex_all, hex_beyond, hex_stays, hex_end)
+
+pub ruleset plain_laws = (plain_none, plain_stored, plain_all, plain_beyond, plain_stays, plain_end)

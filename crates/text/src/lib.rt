@@ -6,7 +6,7 @@ ghost use Rattle.std.specs.Prelude.{◌≡◌, ◌<◌, [], ◌∷◌};
 ghost use Rattle.writer.specs.Writes.{written_at};
 ghost use Rattle.text.specs.Texts.{glyph_of, hex_of, decimal_of, end_of};
 
-use writer::{has_room, put_bytes};
+use writer::has_room;
 
 // The most digits of a number of 64 bits.
 const PLACES: usize = 20;
@@ -32,16 +32,18 @@ fn hex_digits(byte: u8) -> [u8; 2]
 }
 
 // Writes a text as it is.
-#[tactic(auto, unfolding(crate::specs::Texts::end_of))]
+#[tactic(auto, using(crate::proofs::Puts::plain_laws, std::proofs::lemmas::Bool::Decides::nat_tests))]
 pub fn put(out: &mut [u8], at: usize, text: &[u8]) -> usize
     ensures { (out.new ≡ written_at at text.now out.old) × (result ≡ end_of at text.now out.old) }
 {
-    put_bytes(out, at, text);
-    if has_room(out, at, text.len()) {
-        at + text.len()
-    } else {
-        at
+    if !has_room(out, at, text.len()) {
+        return at;
     }
+    // Byte by byte: a copy of a slice is a `memmove`, which the archive for C would need from outside.
+    for (i, byte) in text.iter().enumerate() {
+        out[at + i] = *byte;
+    }
+    at + text.len()
 }
 
 // Writes bytes in hex, two digits each.
