@@ -23,6 +23,9 @@ use writer::{put_bytes, put_u32};
 // The most that a packet takes here: a header and the longest reply.
 const PACKET_ROOM: usize = 424;
 
+// Its bytes in hex.
+const LINE_ROOM: usize = 848;
+
 // The header's first four bytes, but for its length: next header 59, UPDATE, version 2. The rest of the header stays 0.
 const HEADER: u32 = 0x3b00_1021;
 
@@ -35,9 +38,6 @@ struct Side {
     name: &'static str,
     association: Association,
 }
-
-// The bytes of the longest packet in hex.
-const LINE_ROOM: usize = 848;
 
 // A packet: the first `size` of the bytes.
 #[derive(Clone, Copy)]
